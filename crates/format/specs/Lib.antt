@@ -1,0 +1,12 @@
+pub mod Basis
+pub mod Dwords
+pub mod Framing
+pub mod Counts
+pub mod Operands
+pub mod Declarations
+pub mod Instructions
+pub mod Rows
+pub mod Refusals
+pub mod Calls
+pub mod Encoder
+pub mod Editions
