@@ -4,7 +4,7 @@ use mathlib.Core.Path.{_≡_, refl, sym, ap, _∙_, subst, subst₂}
 use mathlib.Core.List.{List, [], _∷_, _++_, append-nil, map}
 use mathlib.Core.Option.{Option, none, some}
 use mathlib.Core.Bool.{Bool, true, false, cond}
-use lib.ListN.{length, getD, take, drop}
+use lib.ListN.{length, take, drop}
 use lib.Seq.{take-at, drop-drop, drop-append-seam}
 use lib.Dec.{ltb, lit≤}
 use native.Mathlib.Omega.{arith}
@@ -16,15 +16,15 @@ use Rattle.format.specs.Dwords.{dwordsOf}
 use Rattle.format.specs.Framing.{codeOf, ceiling}
 use Rattle.format.specs.Instructions.{Instruction, unread, pieces, dwords, allDwords}
 use Rattle.format.specs.Rows.{treeWords, treeTable, partsWords, partsRows, partsTable, parts, unreadRow, instructionRow, allParts}
-use Rattle.format.specs.Refusals.{number, place, Outcome, refused, accepted, answer, unless, header, firstOf, room, body, decode, Pools, Rows, reading}
+use Rattle.format.specs.Refusals.{number, place, Outcome, refused, accepted, answer, unless, header, firstOf, room, body, decode, Pools, reading}
 use Rattle.format.specs.Encoder.{at}
-use Rattle.format.specs.Editions.{Entry, entry, move, _holds_, dwordsAt, Unread, Beside}
+use Rattle.format.specs.Editions.{Entry, entry, _holds_, dwordsAt, Unread, Beside}
 use Rattle.format.proofs.Dwords.{impossible}
 use Rattle.format.proofs.Instructions.{kept-ok}
 use Rattle.format.proofs.Refusals.{Reads, nil, cons, unless-accepted, reads-dwords, chunk-accepted, decode-accepted}
 use Rattle.format.proofs.Remade.{read-sound, kindUnder, sound-kind}
-use Rattle.format.proofs.Encoder.{Read, answer-read, answer-accepted, answer-refused}
-use Rattle.format.proofs.Editions.{lower, Known, Order, below, above, order, body-accepts, body-refuses}
+use Rattle.format.proofs.Encoder.{answer-read, answer-accepted, answer-refused}
+use Rattle.format.proofs.Editions.{lower, Known, body-accepts, body-refuses}
 use Rattle.format.proofs.Entries.{entryOf, nth, row-places, entry-nth, entry-moved}
 
 length-map : (f : Instruction → Instruction) (l : List Instruction) → length (map f l) ≡ length l

@@ -3,7 +3,7 @@ use Prim.Native.Nat.{ℕ}
 use mathlib.Core.Path.{_≡_, refl}
 use mathlib.Core.List.{List, [], _∷_, _++_, map}
 use lib.ListN.{length, replicate}
-use lib.IntN.{ℤ, pos, negsuc, _-ℤ_}
+use lib.IntN.{ℤ, pos, negsuc}
 use Rattle.format.specs.Dwords.{dwordsOf, bytesOf, follows, dword, some, noneLeft, chain}
 use Rattle.format.specs.Framing.{codeOf, long, sized, lengthOf, frame, ceiling}
 use Rattle.format.specs.Counts.{numbers, within, lineOf, operandCount, lowerBits, rising, ofType, typeBits}

@@ -1,23 +1,21 @@
 -- The statements that answer the assessor, each about the definitions of specs/ alone and each proved by citing its law.
-use Prim.Native.Nat.{ℕ, _+_, _*_, _-_, _/_, _^_, _≤_, _<_}
-use mathlib.Core.Path.{_≡_, refl, sym, ap, _∙_, subst}
+use Prim.Native.Nat.{ℕ, _*_, _-_, _/_, _^_, _≤_, _<_}
+use mathlib.Core.Path.{_≡_}
 use mathlib.Core.List.{List}
 use mathlib.Core.Logic.{_↔_}
 use mathlib.Core.Option.{none}
-use mathlib.Core.Bool.{Bool, cond}
+use mathlib.Core.Bool.{cond}
 use lib.ListN.{length, getD, drop}
 use lib.Dec.{ltb}
-use borrow.Author.Tests.{lt-ltb, le-ltb}
-use native.Mathlib.Omega.{arith}
 use Rattle.format.specs.declared.Refusal.{Refusal}
-use Rattle.format.specs.declared.Refusal.the-variants.{NoReading, OutputShort}
+use Rattle.format.specs.declared.Refusal.the-variants.{NoReading}
 use Rattle.format.specs.declared.Answer.the-variants.{Accepted, Refused}
 use Rattle.format.specs.Dwords.{Bytes, dwordsOf}
 use Rattle.format.specs.Framing.{codeOf, ceiling}
 use Rattle.format.specs.Declarations.{layout}
 use Rattle.format.specs.Refusals.{number, place, room, decode, answer, Pools, Rows, reading}
 use Rattle.format.specs.Encoder.{at, held, Gives, unencoded, encoded, encode}
-use Rattle.format.specs.Editions.{Entry, entry, Beside}
+use Rattle.format.specs.Editions.{entry, Beside}
 use Rattle.format.proofs.Cases.{AllRight, cases, jointly}
 use Rattle.format.proofs.Vectors.{two, differ}
 use Rattle.format.proofs.Encoder as encoder

@@ -1,9 +1,9 @@
 -- Laws of dwords and readers: what is read, with what is left, makes up the dwords.
-use Prim.Native.Nat.{ℕ, zero, suc, _+_, _*_, _/_, _%_, _^_, _≤_, _<_}
-use mathlib.Core.Path.{_≡_, refl, sym, ap, _∙_}
-use mathlib.Core.List.{List, [], _∷_, _++_, append-nil}
+use Prim.Native.Nat.{ℕ, zero, suc, _+_, _*_, _/_, _%_, _^_, _<_}
+use mathlib.Core.Path.{_≡_, refl, ap}
+use mathlib.Core.List.{List, [], _∷_, _++_}
 use mathlib.Core.Bool.{Bool, true, false, cond, _&&_}
-use lib.ListN.{length, getD, drop}
+use lib.ListN.{length}
 use native.Mathlib.Omega.{arith}
 use Rattle.format.specs.Dwords.{Bytes, dwordOf, dwordsOf, bytesOf, follows, Got, malformed, got, Reader, then, dword, some, noneLeft, chain}
 

@@ -1,7 +1,7 @@
 -- Under a lower ceiling a chunk has the same answer, with the codes that it does not know unread.
-use Prim.Native.Nat.{ℕ, zero, suc, _+_, _*_, _/_, _≤_, _<_}
+use Prim.Native.Nat.{ℕ, _+_, _*_, _/_, _≤_, _<_}
 use mathlib.Core.Path.{_≡_, refl, sym, ap, _∙_, subst}
-use mathlib.Core.List.{List, [], _∷_, _++_, append-assoc, map}
+use mathlib.Core.List.{List, _∷_, map}
 use mathlib.Core.Option.{Option, none, some}
 use mathlib.Core.Bool.{Bool, true, false, cond}
 use lib.ListN.{length, getD, drop, length-drop}
@@ -14,10 +14,10 @@ use Rattle.format.specs.declared.Refusal.{Refusal}
 use Rattle.format.specs.declared.Refusal.the-variants.{OperandCount, Layout}
 use Rattle.format.specs.Framing.{codeOf, Framed, whole, zeroLength, pastEnd, instruction, frame}
 use Rattle.format.specs.Instructions.{Instruction, unread, Reading, ok, miscounted, inexact, read, dwords}
-use Rattle.format.specs.Refusals.{number, place, Outcome, refused, accepted, unless, either, kept as keep, firstPass, secondPass, readings, isModel51, body}
+use Rattle.format.specs.Refusals.{number, place, Outcome, refused, accepted, unless, either, firstPass, secondPass, readings, isModel51, body}
 use Rattle.format.proofs.Dwords.{impossible}
 use Rattle.format.proofs.Instructions.{kept-ok, read-restores, read-known, read-unknown}
-use Rattle.format.proofs.Refusals.{Cuts, done, zero-length, past-end, more, frame-cuts, unless-accepted, accepted-fields, Passed, passed}
+use Rattle.format.proofs.Refusals.{Cuts, done, zero-length, past-end, more, frame-cuts, unless-accepted, accepted-fields, passed}
 
 -- an instruction under a lower ceiling: as it is, or unread, holding exactly its dwords
 unfoldable pub lower : ℕ → Instruction → Instruction
@@ -41,9 +41,7 @@ module _ (lo hi : ℕ) (lh : lo ≤ hi) (m : Bool) (ds : List ℕ) where
   -- a pass over the stream, of which a reading may be hit; where it ends doesn't depend on the ceiling
   record Pass (pass : ℕ → ℕ → Framed → Option Refusal) (hit : Reading → Bool) (r : ℕ → Refusal) : Type 0 where
     step : (c at : ℕ) (i : List ℕ) (f : Framed) → pass c at (instruction i f) ≡ cond (hit (read c m i)) (some (r at)) (pass c (at + length i) f)
-    at-whole : (at : ℕ) → pass lo at whole ≡ pass hi at whole
-    at-zero : (at : ℕ) → pass lo at zeroLength ≡ pass hi at zeroLength
-    at-past : (at : ℕ) → pass lo at pastEnd ≡ pass hi at pastEnd
+    ends : (at : ℕ) → (pass lo at whole ≡ pass hi at whole) × (pass lo at zeroLength ≡ pass hi at zeroLength) × (pass lo at pastEnd ≡ pass hi at pastEnd)
     spares : (i : Instruction) → hit (ok i) ≡ false
     inside : (at : ℕ) → (12 < number (r at)) × (place (r at) / 4 ≡ at)
 
@@ -69,9 +67,9 @@ module _ (lo hi : ℕ) (lh : lo ≤ hi) (m : Bool) (ds : List ℕ) where
         go false k = f k
 
     same-pass : (at : ℕ) {f : Framed} {l : List ℕ} → Cuts f l → l ≡ drop at ds → Fine (pass hi at f) → pass lo at f ≡ pass hi at f
-    same-pass at done z k = p .at-whole at
-    same-pass at zero-length z k = p .at-zero at
-    same-pass at past-end z k = p .at-past at
+    same-pass at done z k = p .ends at .0
+    same-pass at zero-length z k = p .ends at .1
+    same-pass at past-end z k = p .ends at .2
     same-pass at (more t i left {f = f} n s q) z k =
         let next : left ≡ drop (at + length (t ∷ i)) ds = sym (drop-append-seam (t ∷ i) left) ∙ ap (drop (length (t ∷ i))) (s ∙ z) ∙ drop-drop (length (t ∷ i)) at ds in
         rw (p .step lo at (t ∷ i) f, p .step hi at (t ∷ i) f)
@@ -80,14 +78,7 @@ module _ (lo hi : ℕ) (lh : lo ≤ hi) (m : Bool) (ds : List ℕ) where
   -- 11, 12 and 13; and 14
   first-pass : Pass (λ c at f. firstPass c m at f) (λ (x : Reading). either x false true false) (λ at. OperandCount (4 * at))
   unfolding firstPass
-  first-pass = record {
-    step = λ c at i f. go (read c m i) _ _;
-    at-whole = λ at. refl;
-    at-zero = λ at. refl;
-    at-past = λ at. refl;
-    spares = λ i. refl;
-    inside = λ at. (omega arith, omega arith);
-  }
+  first-pass = record { step = λ c at i f. go (read c m i) _ _; ends = λ at. (refl, refl, refl); spares = λ i. refl; inside = λ at. (omega arith, omega arith) }
     where
       go : (x : Reading) (a : Option Refusal) (r : Refusal) → either x a (some r) a ≡ cond (either x false true false) (some r) a
       go (ok i) a r = refl
@@ -96,14 +87,7 @@ module _ (lo hi : ℕ) (lh : lo ≤ hi) (m : Bool) (ds : List ℕ) where
 
   second-pass : Pass (λ c at f. secondPass c m at f) (λ (x : Reading). either x false false true) (λ at. Layout (4 * at))
   unfolding secondPass
-  second-pass = record {
-    step = λ c at i f. go (read c m i) _ _;
-    at-whole = λ at. refl;
-    at-zero = λ at. refl;
-    at-past = λ at. refl;
-    spares = λ i. refl;
-    inside = λ at. (omega arith, omega arith);
-  }
+  second-pass = record { step = λ c at i f. go (read c m i) _ _; ends = λ at. (refl, refl, refl); spares = λ i. refl; inside = λ at. (omega arith, omega arith) }
     where
       go : (x : Reading) (a : Option Refusal) (r : Refusal) → either x a a (some r) ≡ cond (either x false false true) (some r) a
       go (ok i) a r = refl

@@ -1,28 +1,27 @@
 -- The encoder gives back each accepted chunk, and nothing else.
-use Prim.Native.Nat.{ℕ, zero, suc, _+_, _*_, _/_, _-_, _≤_, _<_}
+use Prim.Native.Nat.{ℕ, zero, suc, _*_, _/_, _-_, _≤_, _<_}
 use mathlib.Core.Path.{_≡_, refl, sym, ap, _∙_, subst}
-use mathlib.Core.List.{List, [], _∷_, _++_}
+use mathlib.Core.List.{List, [], _∷_}
 use mathlib.Core.Logic.{_↔_}
 use mathlib.Core.Option.{none}
-use mathlib.Core.Bool.{Bool, true, false, cond, _&&_, _||_}
+use mathlib.Core.Bool.{Bool, true, false, cond, _||_}
 use lib.ListN.{length, take, drop, replicate, length-take, length-replicate}
 use lib.Seq.{take-at, length-take-le}
 use lib.Dec.{ltb, eqb}
 use native.Mathlib.Omega.{arith}
-use borrow.Author.Tests.{ltb-true, ltb-false, le-ltb, lt-ltb, eqb-true, eq-eqb}
+use borrow.Author.Tests.{ltb-true, ltb-false, le-ltb, eqb-true, eq-eqb}
 use Rattle.format.specs.declared.Refusal.{Refusal}
 use Rattle.format.specs.declared.Refusal.the-variants.{Edition, NoReading, OutputShort}
 use Rattle.format.specs.declared.Answer.{Answer}
 use Rattle.format.specs.declared.Answer.the-variants.{Accepted, Refused}
-use Rattle.format.specs.Dwords.{Bytes, dwordsOf, bytesOf}
-use Rattle.format.specs.Framing.{ceiling}
-use Rattle.format.specs.Instructions.{Instruction, allDwords}
+use Rattle.format.specs.Dwords.{Bytes, bytesOf}
+use Rattle.format.specs.Instructions.{Instruction}
 use Rattle.format.specs.Rows.{instructionRows, partsRows, partsWords, partsTable, allParts}
-use Rattle.format.specs.Refusals.{Outcome, refused, accepted, SHEX, readChunk, decode, answer, after, poolsAfter, Rows, told, reading, isModel51, header, room, Pools}
-use Rattle.format.specs.Encoder.{makeAll, pastPool, held, chunkOf, made, same, gives, Gives, Encoding, unencoded, encoded, encode}
+use Rattle.format.specs.Refusals.{Outcome, refused, accepted, SHEX, readChunk, decode, answer, after, poolsAfter, Rows, told, reading, header, room, Pools}
+use Rattle.format.specs.Encoder.{pastPool, held, chunkOf, made, same, gives, Gives, Encoding, unencoded, encoded, encode}
 use Rattle.format.proofs.Dwords.{impossible, both}
 use Rattle.format.proofs.Rows.{rows-length, parts-length}
-use Rattle.format.proofs.Refusals.{Accepted as Body, Chunk, chunk-accepted, chunk-restores, decode-accepted, header-SHEX, unless-accepted}
+use Rattle.format.proofs.Refusals.{Chunk, chunk-accepted, chunk-restores, decode-accepted, header-SHEX, unless-accepted}
 use Rattle.format.proofs.Remade.{reads-again}
 
 same-refl : (l : List ℕ) → same l l ≡ true

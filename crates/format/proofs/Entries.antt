@@ -1,11 +1,11 @@
 -- What the pools hold of each instruction after an accepted chunk; rows moved to where they stand.
 use Prim.Native.Nat.{ℕ, zero, suc, _+_, _*_, _-_, _/_, _%_, _^_, _≤_, _<_}
-use mathlib.Core.Path.{_≡_, refl, sym, ap, ap₂, _∙_, subst}
+use mathlib.Core.Path.{_≡_, refl, sym, ap, ap₂, _∙_}
 use mathlib.Core.List.{List, [], _∷_, _++_, append-assoc, append-nil}
-use mathlib.Core.Bool.{Bool, true, false, cond, _&&_}
-use lib.ListN.{length, getD, take, drop, length-append, length-drop, List·getD-append}
+use mathlib.Core.Bool.{Bool, true, false, cond}
+use lib.ListN.{length, take, drop, length-append, length-drop, List·getD-append}
 use lib.Seq.{take-at, drop-at, getD-append-add, take-append-le, drop-append-le, take-all}
-use lib.Dec.{ltb, leb}
+use lib.Dec.{ltb}
 use lib.Pow.{field, mod-mod-pow, shr-shr}
 use native.Mathlib.Omega.{arith}
 use native.Mathlib.Nat.{add-zero, zero-add}
@@ -14,8 +14,8 @@ use Rattle.format.specs.Dwords.{bitsFrom}
 use Rattle.format.specs.Operands as op
 use Rattle.format.specs.Operands.{Tree, none, plain, node}
 use Rattle.format.specs.Instructions.{Instruction, unread, pieces, dwords}
-use Rattle.format.specs.Rows.{placed, wordPlace, childRow, treeWords, treeRows, operandRow, treeTable, partsWords, partsRows, partsTable, parts, unreadRow, instructionRow, instructionRows, allParts}
-use Rattle.format.specs.Refusals.{Pools, Rows, Outcome, accepted, answer, after, poolsAfter, reading}
+use Rattle.format.specs.Rows.{placed, treeWords, treeRows, operandRow, treeTable, partsWords, partsRows, partsTable, parts, unreadRow, instructionRow, instructionRows, allParts}
+use Rattle.format.specs.Refusals.{Pools, Rows, accepted, answer, after, poolsAfter, reading}
 use Rattle.format.specs.Calls.{cell, reached, spanned, partOf}
 use Rattle.format.specs.Encoder.{at}
 use Rattle.format.specs.Editions.{Entry, nextRow, entry, reprIn, moveOperand, moveOperands, move}

@@ -6,18 +6,17 @@ use mathlib.Core.Bool.{Bool, true, false, cond, _&&_}
 use lib.ListN.{length}
 use lib.Dec.{eqb, ltb}
 use borrow.Author.Tests.{lt-ltb, le-ltb}
-use Rattle.format.specs.Dwords.{follows, Got, malformed, got}
+use Rattle.format.specs.Dwords.{follows, Got}
 use Rattle.format.specs.Framing.{codeOf, sized}
 use Rattle.format.specs.Declarations.{Item, o, d, small, s, tail, list, Layout, layout, chained}
 use Rattle.format.specs.Operands as op
-use Rattle.format.specs.Operands.{Tree, none, plain, node}
 use Rattle.format.specs.Instructions.{Instruction, unread, pieces, Reading, ok, miscounted, inexact, readHead, readItem, readItems, split, fault, exactPieces, checked, judged, read, dwords}
 use Rattle.format.proofs.Dwords.{impossible, All, unmet, met, all-then, all-if, all-weaken, Makes, makes-dword, some-length, none-left, chain-linked}
 use Rattle.format.proofs.Operands.{makes-operand}
 
 makes-item : (m : Bool) (i : Item) (ds : List ℕ) → Makes op.dwords ds (readItem m i ds)
 unfolding readItem op.dwords
-makes-item m o ds = makes-operand 64 ds
+makes-item m o ds = makes-operand _ ds
 makes-item m d ds = all-then (some-length 1 ds) (λ x r e. met (rw append-nil (e .0)))
 makes-item m small ds = all-then (makes-dword ds) (λ x r e. all-if (ltb x 65_536) _ _ r (λ h. met e) (λ h. unmet))
 makes-item m s ds = all-then (some-length (cond m 1 0) ds) (λ x r e. met (rw append-nil (e .0)))

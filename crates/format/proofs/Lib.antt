@@ -1,3 +1,6 @@
+-- The statements that answer the assessor are in Demands; what is computed comes first, so that a wrong definition fails there.
+pub mod Cases
+pub mod Vectors
 pub mod Dwords
 pub mod Operands
 pub mod Instructions
@@ -11,6 +14,4 @@ pub mod Editions
 pub mod Entries
 pub mod Beside
 pub mod Room
-pub mod Cases
-pub mod Vectors
 pub mod Demands

@@ -1,21 +1,21 @@
 -- What was read is made again from its rows and words.
 use Prim.Native.Nat.{ℕ, zero, suc, _+_, _*_, _/_, _%_, _^_, _≤_, _<_}
-use mathlib.Core.Path.{_≡_, refl, sym, ap, _∙_, subst}
+use mathlib.Core.Path.{_≡_, refl, sym, ap, _∙_}
 use mathlib.Core.List.{List, [], _∷_, _++_, append-assoc, append-nil}
-use mathlib.Core.Bool.{Bool, true, false, cond, _&&_, _||_}
-use lib.ListN.{length, getD, take, drop, length-append}
+use mathlib.Core.Bool.{Bool, true, false, cond}
+use lib.ListN.{length, length-append}
 use lib.Seq.{take-at, drop-at, take-length, drop-length}
 use lib.Dec.{ltb, eqb}
 use native.Mathlib.Omega.{arith}
 use borrow.Author.Tests.{ltb-true, eqb-true, eqb-false}
-use Rattle.format.specs.Dwords.{bits, follows, Got, malformed, got, Reader, dword, some, chain}
+use Rattle.format.specs.Dwords.{bits, follows, Reader}
 use Rattle.format.specs.Dwords as reader
 use Rattle.format.specs.Declarations.{Item, o, d, small, s, tail, list}
 use Rattle.format.specs.Operands as op
 use Rattle.format.specs.Operands.{Tree, none, plain, node}
 use Rattle.format.specs.Instructions.{readItem, readItems}
-use Rattle.format.specs.Rows.{treeWords, treeRows, operandRow, treeTable, partsWords, partsRows, partsTable}
-use Rattle.format.specs.Encoder.{Made, Maker, _⨾_, these, words, at, extensionOf, operandDword, makeIndex, makeRest, makeOperand, makeItem, makeItems}
+use Rattle.format.specs.Rows.{treeWords, operandRow, treeTable, partsWords, partsTable}
+use Rattle.format.specs.Encoder.{Maker, these, words, at, extensionOf, operandDword, makeIndex, makeRest, makeOperand, makeItem, makeItems}
 use Rattle.format.proofs.Dwords.{impossible, both, All, unmet, met, all-then, all-if, all-weaken, all-both, makes-dword, some-length, Linked, end, link, chain-linked}
 use Rattle.format.proofs.Instructions.{makes-items}
 use Rattle.format.proofs.Rows.{operand-row-length, parts-fit}
@@ -158,7 +158,7 @@ tail-again x W R e = rw (e, append-nil x, append-nil x, take-length x, drop-leng
 
 item-again : (m : Bool) (i : Item) (ds : List ℕ) → All (λ x left. ItemAgain (makeItem m i) x left) (readItem m i ds)
 unfolding readItem makeItem treeTable treeWords op.dwords
-item-again m o ds = all-weaken (λ x left f e r w R W z. f e r w R W) (operand-again 64 ds)
+item-again m o ds = all-weaken (λ x left f e r w R W z. f e r w R W) (operand-again _ ds)
 item-again m d ds = all-then (some-length 1 ds) (λ x left l. met (λ e r w R W z. plain-again x W R 1 (l .1)))
 item-again m small ds = all-then (makes-dword ds) (λ x left u. all-if (ltb x 65_536) _ _ left (λ h. met (λ e r w R W z. plain-again (x ∷ []) W R 1 refl)) (λ h. unmet))
 item-again m s ds = all-then (some-length (cond m 1 0) ds) (λ x left l. met (λ e r w R W z. plain-again x W R (cond m 1 0) (l .1)))

@@ -2,11 +2,9 @@
 use Prim.Native.Nat.{ℕ, zero, suc}
 use mathlib.Core.Path.{_≡_, refl, ap, _∙_}
 use mathlib.Core.List.{List, [], _∷_, _++_, append-assoc}
-use mathlib.Core.Bool.{true, false}
-use lib.ListN.{length}
 use lib.Dec.{eqb}
-use Rattle.format.specs.Dwords.{follows, Reader, some}
-use Rattle.format.specs.Operands.{Tree, none, plain, node, immediate, immediates, dimension, repr, own, nests, known, readIndex, readImmediates, readIndices, operand, dwords}
+use Rattle.format.specs.Dwords.{follows, Reader}
+use Rattle.format.specs.Operands.{Tree, immediate, immediates, dimension, repr, own, nests, known, readIndex, readImmediates, readIndices, operand, dwords}
 use Rattle.format.proofs.Dwords.{All, unmet, met, all-then, all-if, Makes, makes-dword, some-length, chain-linked}
 
 flat : (e m a b c r : List ℕ) → (e ++ m ++ a ++ b ++ c) ++ r ≡ e ++ (m ++ (a ++ (b ++ (c ++ r))))

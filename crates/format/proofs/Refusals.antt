@@ -1,23 +1,21 @@
 -- Laws of the header, framing and the two passes: an accepted chunk is restored.
-use Prim.Native.Nat.{ℕ, zero, suc, _+_, _*_, _/_, _%_, _^_, _≤_, _<_}
-use mathlib.Core.Path.{_≡_, refl, sym, ap, _∙_, subst}
-use mathlib.Core.List.{List, [], _∷_, _++_, append-assoc, append-nil, map}
+use Prim.Native.Nat.{ℕ, zero, suc, _+_, _*_, _%_, _≤_, _<_}
+use mathlib.Core.Path.{_≡_, refl, sym, ap, _∙_}
+use mathlib.Core.List.{List, [], _∷_, _++_, map}
 use mathlib.Core.Option.{Option, none, some}
-use mathlib.Core.Bool.{Bool, true, false, cond, not}
+use mathlib.Core.Bool.{Bool, true, false, cond}
 use lib.ListN.{length, getD, drop, length-append, length-drop}
-use lib.Dec.{ltb, eqb}
 use native.Mathlib.Omega.{arith}
 use borrow.Author.Tests.{ltb-false, eqb-true, not-false}
 use Rattle.format.specs.declared.Refusal.{Refusal}
-use Rattle.format.specs.declared.Refusal.the-variants.{ZeroLength, PastEnd, OperandCount, Layout}
-use Rattle.format.specs.Dwords.{Bytes, dwordsOf, bytesOf, Got, malformed, got, some as several}
+use Rattle.format.specs.Dwords.{Bytes, dwordsOf, Got}
 use Rattle.format.specs.Framing.{lengthOf, Framed, whole, zeroLength, pastEnd, instruction, cut, frame, ceiling}
-use Rattle.format.specs.Instructions.{Instruction, Reading, ok, miscounted, inexact, read, dwords, allDwords}
+use Rattle.format.specs.Instructions.{Instruction, Reading, ok, miscounted, inexact, read, allDwords}
 use Rattle.format.specs.Counts.{within}
-use Rattle.format.specs.Refusals.{Outcome, refused, accepted, unless, either, kept as keep, firstPass, secondPass, readings, isModel51, body, header, headerTests, firstOf, readChunk, room, decode, Pools, SHEX}
+use Rattle.format.specs.Refusals.{Outcome, accepted, unless, either, firstPass, secondPass, readings, isModel51, body, header, headerTests, firstOf, readChunk, room, decode, Pools, SHEX}
 use Rattle.format.specs.Encoder.{chunkOf}
 use Rattle.format.proofs.Dwords.{impossible, bytes-dwords, length-dwords, All, unmet, met, some-length}
-use Rattle.format.proofs.Instructions.{Kept, kept, kept13, kept14, kept-ok, read-restores}
+use Rattle.format.proofs.Instructions.{kept-ok, read-restores}
 
 -- framing cuts a payload into instructions, each of its length
 pub data Cuts : Framed → List ℕ → Type 0 where

@@ -1,27 +1,27 @@
 -- An accepted payload is made again from its rows and words.
-use Prim.Native.Nat.{ℕ, zero, suc, _+_, _*_, _/_, _%_, _^_, _≤_, _<_}
+use Prim.Native.Nat.{ℕ, _+_, _*_, _%_, _^_}
 use mathlib.Core.Path.{_≡_, refl, sym, ap, _∙_, subst}
 use mathlib.Core.List.{List, [], _∷_, _++_, append-assoc, append-nil}
-use mathlib.Core.Bool.{Bool, true, false, cond, not, _&&_, _||_}
+use mathlib.Core.Bool.{Bool, true, false, cond, _&&_, _||_}
 use mathlib.Core.Option.{Option, none as nothing, some}
-use lib.ListN.{length, getD, take, drop, length-append}
+use lib.ListN.{length, getD}
 use lib.Seq.{take-at, drop-at, take-length, drop-length}
 use lib.Dec.{ltb, eqb}
 use native.Mathlib.Omega.{arith}
 use native.Mathlib.Nat.{add-zero}
-use borrow.Author.Tests.{ltb-true, eqb-true, eqb-false}
-use Rattle.format.specs.Dwords.{bits, follows, Got, malformed, got, dword}
+use borrow.Author.Tests.{eqb-true}
+use Rattle.format.specs.Dwords.{bits, follows, Got, dword}
 use Rattle.format.specs.Framing.{code, codeOf, long, sized, lengthOf}
 use Rattle.format.specs.Counts.{numbers, within, lineOf, operandCount, tokenWith, rising, ofType, typeBits}
 use Rattle.format.specs.Declarations.{Item, tail, Field, no, from, inTable, declarations, byCount, inBounds, Layout, layout, chained}
 use Rattle.format.specs.Operands as op
-use Rattle.format.specs.Operands.{Tree, none, plain, node}
-use Rattle.format.specs.Instructions.{Instruction, unread, pieces, Reading, ok, inexact, readHead, split, fieldsOf, extensions, exactClass, exactPieces, checked, judged, read, dwords, allDwords}
+use Rattle.format.specs.Operands.{Tree}
+use Rattle.format.specs.Instructions.{Instruction, unread, pieces, readHead, split, fieldsOf, extensions, exactClass, exactPieces, checked, judged, read, dwords, allDwords}
 use Rattle.format.specs.Rows.{treeWords, treeTable, partsWords, partsRows, partsTable, parts, unreadRow, instructionRow, instructionRows, allParts}
-use Rattle.format.specs.Encoder.{Made, Maker, these, words, at, makeItem, makeItems, chainOf, sizedRow, tokenOfRow, headOfRow, makeInstruction, makeAll}
+use Rattle.format.specs.Encoder.{these, at, makeItem, chainOf, sizedRow, tokenOfRow, headOfRow, makeInstruction, makeAll}
 use Rattle.format.proofs.Dwords.{impossible, both, All, unmet, met, all-then, all-if, all-weaken, all-both, some-length, none-left, Linked, end, link, chain-linked}
 use Rattle.format.proofs.Chains.{bit31, chain-again, chain-shown}
-use Rattle.format.proofs.Instructions.{Kept, kept, kept13, kept14, kept-if, kept-fault, kept-ok, makes-split}
+use Rattle.format.proofs.Instructions.{Kept, kept, kept14, kept-if, kept-fault, kept-ok, makes-split}
 use Rattle.format.proofs.Rows.{row-length, table-append, words-append}
 use Rattle.format.proofs.Refusals.{Reads, nil, cons}
 use Rattle.format.proofs.Made.{PartsAgain, items-again}

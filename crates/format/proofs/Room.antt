@@ -1,30 +1,30 @@
 -- The rows and words of an accepted chunk fit the pools that 10 asks for, and every number in them fits 32 bits.
 use Prim.Native.Nat.{ℕ, zero, suc, _+_, _*_, _-_, _/_, _%_, _^_, _≤_, _<_}
-use mathlib.Core.Path.{_≡_, refl, sym, ap, _∙_, subst}
+use mathlib.Core.Path.{_≡_, ap, _∙_}
 use mathlib.Core.List.{List, [], _∷_, _++_, append-nil}
-use mathlib.Core.Bool.{Bool, true, false, cond, not, _&&_, _||_}
+use mathlib.Core.Bool.{Bool, true, false, cond, _&&_}
 use lib.ListN.{length, getD, drop, length-append, length-drop}
 use lib.Dec.{ltb, eqb, lit<, lit≤}
 use native.Mathlib.Omega.{arith}
 use native.Mathlib.Nat.{mod-le}
-use borrow.Author.Tests.{ltb-true, eqb-true}
-use Rattle.format.specs.Dwords.{Bytes, dwordOf, dwordsOf, bits, bitsFrom}
-use Rattle.format.specs.Framing.{code, codeOf, long, sized}
-use Rattle.format.specs.Counts.{Fields, tokenWith, extensionType, rising, ofType, typeBits, within, numbers, operandCount}
-use Rattle.format.specs.Declarations.{Layout, layout, fieldIn, chained}
+use borrow.Author.Tests.{eqb-true}
+use Rattle.format.specs.Dwords.{Bytes, dwordOf, dwordsOf, bits}
+use Rattle.format.specs.Framing.{code, codeOf, long}
+use Rattle.format.specs.Counts.{tokenWith, extensionType, rising, ofType, typeBits}
+use Rattle.format.specs.Declarations.{Layout, layout, chained}
 use Rattle.format.specs.Operands as op
 use Rattle.format.specs.Operands.{Tree, none, plain, node}
-use Rattle.format.specs.Instructions.{Instruction, unread, pieces, Reading, ok, fieldsOf, extensions, dwords, allDwords}
+use Rattle.format.specs.Instructions.{Instruction, unread, pieces, fieldsOf, extensions, dwords}
 use Rattle.format.specs.Rows.{placed, wordPlace, childRow, treeWords, treeRows, operandRow, treeTable, partsWords, partsRows, partsTable, topLevel, parts, unreadRow, instructionRow, instructionRows, allParts}
 use Rattle.format.specs.Refusals.{Pools, Rows}
 use Rattle.format.specs.Encoder.{held, Gives}
-use Rattle.format.proofs.Dwords.{impossible, both, length-dwords}
-use Rattle.format.proofs.Rows.{parts-fit, tree-fits, instruction-fits, all-fit, rows-length, parts-length, rows-append, words-append, table-append, four-lengths}
-use Rattle.format.proofs.Chains.{Rose, rose}
-use Rattle.format.proofs.Remade.{Exact, Sound, not-read, exact-read, every-kind, read-sound}
+use Rattle.format.proofs.Dwords.{impossible, length-dwords}
+use Rattle.format.proofs.Rows.{all-fit, rows-length, parts-length, rows-append, words-append, table-append, four-lengths}
+use Rattle.format.proofs.Chains.{rose}
+use Rattle.format.proofs.Remade.{Sound, not-read, exact-read, every-kind, read-sound}
 use Rattle.format.proofs.Instructions.{kept-ok, read-restores}
 use Rattle.format.proofs.Refusals.{Reads, nil, cons, reads-dwords, Chunk, chunk-accepted}
-use Rattle.format.proofs.Encoder.{rowsOf, Given, given}
+use Rattle.format.proofs.Encoder.{rowsOf, given}
 
 -- ---- every one of some numbers fits 32 bits
 pub data Fit : List ℕ → Type 0 where

@@ -1,11 +1,11 @@
 -- The vectors that settle document 01's readings and its "Run only" cases, computed.
-use Prim.Native.Nat.{ℕ, _+_, _*_}
+use Prim.Native.Nat.{ℕ, _*_, _-_}
 use mathlib.Core.Path.{_≡_, refl, sym, ap, _∙_}
 use mathlib.Core.List.{List, [], _∷_, _++_, map}
-use mathlib.Core.Option.{Option, some}
+use mathlib.Core.Option.{some}
 use lib.ListN.{length, getD, replicate}
 use native.Mathlib.Omega.{arith}
-use lib.IntN.{ℤ, pos, negsuc, _-ℤ_}
+use lib.IntN.{pos, negsuc}
 use lib.Ieee.{binary32, ofBits}
 use Rattle.format.specs.declared.Refusal.{Refusal}
 use Rattle.format.specs.declared.Refusal.the-variants.{Edition, NotDwords, Long, OperandCount, NoReading, OutputShort}
@@ -21,7 +21,7 @@ use Rattle.format.specs.Editions.{entry}
 use Rattle.format.specs.Calls.{reached, spanned, partOf, partStart, shownFor, shownIn, shows, signed}
 use Rattle.format.specs.Encoder as encoder
 use Rattle.format.specs.Encoder.{Encoding, unencoded, encoded, encode}
-use Rattle.format.proofs.Cases.{Seen, refusal, rows, reading, Case, case, zeros, AllRight}
+use Rattle.format.proofs.Cases.{refusal, rows, reading, Case, case, zeros, AllRight}
 
 -- by the number of the reading
 abbrev pub vectors : List Case
@@ -196,3 +196,37 @@ differ e =
     let z : places 3 ≡ places 1 = ap (λ (row : List ℕ). encoder.at 12 row ∷ encoder.at 14 row ∷ []) e in
     let n : _≡_ {A = ℕ} 1 0 = ap (λ (l : List ℕ). getD l 0 0) (sym newer-places ∙ z ∙ older-places) in
     omega arith
+
+-- what the pools hold afterwards, each filled with 7 before the call, and so many entries for each of M payload dwords
+unfoldable pub afterwards : ℕ → ℕ → ℕ → List ℕ → List ℕ × List ℕ × List ℕ
+unfolding two
+afterwards e is ws ds =
+    let m = length ds - 2 in
+    let p : Pools = record { instructions = replicate (is * m) 7; operands = replicate (16 * m) 7; words = replicate (ws * m) 7 } in
+    let q = chunk.poolsAfter (chunk.decode e SHEX (bytesOf ds) p) p in
+    (q .instructions, q .operands, q .words)
+
+abbrev pub sevens : ℕ → List ℕ
+sevens n = replicate n 7
+
+-- untouched after 1 and 6, after 10 for each of two pools; zero after 11, 12, 13, 14; rows, then the old entries after success
+pub pools-after :
+    map (λ (ds : List ℕ). afterwards 3 17 1 ds)
+    ((0x150 ∷ 3 ∷ 0x0100003E ∷ []) ∷ (0x50 ∷ 3 ∷ 0x0000003A ∷ []) ∷ (0x50 ∷ 3 ∷ 0x0200003E ∷ []) ∷ (0x50 ∷ 3 ∷ 0x01000036 ∷ []) ∷ (0x50 ∷ 3 ∷ 0x0100403E ∷ []) ∷ (0x50 ∷ 3 ∷ 0x0100003E ∷ []) ∷ []) ++
+    afterwards 4 17 1 (0x50 ∷ 3 ∷ 0x0100003E ∷ []) ∷ afterwards 3 15 1 (0x50 ∷ 3 ∷ 0x0000003A ∷ []) ∷ afterwards 3 17 0 (0x50 ∷ 3 ∷ 0x0000003A ∷ []) ∷ [] ≡
+    (sevens 17, sevens 16, sevens 1) ∷ (zeros 17, zeros 16, zeros 1) ∷ (zeros 17, zeros 16, zeros 1) ∷ (zeros 17, zeros 16, zeros 1) ∷ (zeros 17, zeros 16, zeros 1) ∷ (8 ∷ 1 ∷ 62 ∷ 1 ∷ zeros 12 ++ 7 ∷ [], sevens 16, sevens 1) ∷
+    (sevens 17, sevens 16, sevens 1) ∷ (sevens 15, sevens 16, sevens 1) ∷ (sevens 17, sevens 16, []) ∷ []
+unfolding afterwards
+pools-after = refl
+
+-- what the output holds afterwards, and the length that is answered, for a program of no rows
+abbrev pub noRows : Rows
+noRows = record { version = 0x50; instructions = 0; operands = 0; words = 0; pools = record { instructions = []; operands = []; words = [] } }
+
+unfoldable pub outputs : ℕ → List ℕ → List ℕ × ℕ
+unfolding encoding encoder.encodeAnswer encoder.outputAfter
+outputs e out = let b = encode e noRows (length out) in (encoder.outputAfter b out, encoder.answeredLength (encoder.encodeAnswer b))
+
+pub outputs-after : outputs 3 (sevens 9) ∷ outputs 3 (sevens 8) ∷ outputs 3 (sevens 7) ∷ outputs 4 (sevens 9) ∷ [] ≡ (bytesOf (0x50 ∷ 2 ∷ []) ++ 7 ∷ [], 8) ∷ (bytesOf (0x50 ∷ 2 ∷ []), 8) ∷ (sevens 7, 0) ∷ (sevens 9, 0) ∷ []
+unfolding outputs
+outputs-after = refl

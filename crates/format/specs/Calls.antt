@@ -1,5 +1,5 @@
 -- "Rows", its last paragraph: what a caller gets who asks for a row's words, what it shows, its u, v, w.
-use Rattle.format.specs.Basis.{ℕ, _+_, _*_, _-_, _%_, List, [], _∷_, Bool, cond, _&&_, length, getD, take, drop, eqb, ltb, leb, ℤ, pos, _-ℤ_, binary32, ofBits}
+use Rattle.format.specs.Basis.{ℕ, _+_, _*_, _%_, List, [], _∷_, Bool, cond, _&&_, length, getD, take, drop, eqb, ltb, leb, ℤ, pos, _-ℤ_, binary32, ofBits}
 use Rattle.format.specs.declared.Shown.{Shown}
 use Rattle.format.specs.declared.Shown.the-variants.{Factor, Count, Nothing}
 use Rattle.format.specs.declared.Offsets.{Offsets}

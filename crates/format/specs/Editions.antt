@@ -1,5 +1,5 @@
 -- Demand 3: what the pools hold of one instruction, and how an older edition's entries are compared with a newer's.
-use Rattle.format.specs.Basis.{ℕ, zero, suc, _+_, _*_, _-_, _/_, _<_, _≤_, _≡_, List, [], _∷_, _++_, cond, length, getD, take, drop, ltb}
+use Rattle.format.specs.Basis.{ℕ, zero, suc, _+_, _*_, _-_, _/_, _<_, _≤_, _≡_, List, [], _∷_, _++_, cond, length, take, drop, ltb}
 use Rattle.format.specs.Dwords.{bitsFrom, dwordsOf}
 use Rattle.format.specs.Rows.{placed, wordPlace, childRow, unreadRow}
 use Rattle.format.specs.Refusals.{Rows}

@@ -6,11 +6,10 @@ use Rattle.format.specs.declared.Answer.the-variants.{Accepted}
 use Rattle.format.specs.declared.Encoded.{Encoded}
 use Rattle.format.specs.declared.Encoded.the-variants.{Written, Unwritten}
 use Rattle.format.specs.Dwords.{Bytes, bytesOf}
-use Rattle.format.specs.Counts.{Fields, tokenWith}
+use Rattle.format.specs.Counts.{tokenWith}
 use Rattle.format.specs.Operands.{own, nests, repr, immediate, immediates, extensionWith, dwordWith}
-use Rattle.format.specs.Declarations.{Item, o, d, small, s, tail, list, Layout, layout, chained}
-use Rattle.format.specs.Instructions.{Instruction}
-use Rattle.format.specs.Rows.{instructionRows, partsRows, partsWords, partsTable, allParts}
+use Rattle.format.specs.Declarations.{Item, o, d, small, s, tail, list, layout, chained}
+use Rattle.format.specs.Rows.{instructionRows, partsWords, partsTable, allParts}
 use Rattle.format.specs.Refusals.{Outcome, refused, accepted, SHEX, readChunk, decode, answer, Rows, reading, isModel51, Pools}
 
 infixr 60 _⨾_

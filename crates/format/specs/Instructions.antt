@@ -1,11 +1,11 @@
 -- An instruction, read from its own dwords and no others; what checks 13 and 14 say of it.
-use Rattle.format.specs.Basis.{ℕ, _%_, _^_, List, [], _∷_, _++_, Bool, true, cond, not, _&&_, _||_, length, eqb, ltb}
+use Rattle.format.specs.Basis.{ℕ, _%_, _^_, List, [], _∷_, _++_, Bool, cond, not, _&&_, _||_, length, eqb, ltb}
 use Rattle.format.specs.Dwords.{bits, follows, Got, malformed, got, Reader, then, _>>=_, give, fail, dword, some, noneLeft, chain}
 use Rattle.format.specs.Framing.{code, codeOf, long, sized}
 use Rattle.format.specs.Counts.{within, Fields, tokenWith, rising}
 use Rattle.format.specs.Declarations.{Item, o, d, small, s, tail, list, Layout, layout, chained, fieldIn, inBounds}
 use Rattle.format.specs.Operands as op
-use Rattle.format.specs.Operands.{Tree, none, plain, node}
+use Rattle.format.specs.Operands.{Tree, none, plain}
 
 -- an instruction as it was read: unread; or its token, the length dword or extension chain after it, and its parts
 pub data Instruction : Type 0 where

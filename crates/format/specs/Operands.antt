@@ -1,5 +1,5 @@
 -- "Operands".
-use Rattle.format.specs.Basis.{ℕ, zero, suc, _+_, _*_, _/_, _%_, _^_, List, [], _∷_, _++_, Bool, true, false, cond, _&&_, _||_, getD, eqb, ltb, leb}
+use Rattle.format.specs.Basis.{ℕ, zero, suc, _+_, _*_, _%_, _^_, List, [], _∷_, _++_, Bool, true, false, cond, _&&_, _||_, getD, eqb, ltb, leb}
 use Rattle.format.specs.Dwords.{bitsFrom, bits, follows, Reader, _>>=_, give, fail, dword, some, chain}
 
 -- type: bits 12-19

@@ -1,5 +1,5 @@
 -- "Refusals, in order": their numbers and places, when each is given, and what the pools hold afterwards.
-use Rattle.format.specs.Basis.{ℕ, _+_, _*_, _-_, _/_, _%_, _^_, List, [], _∷_, _++_, Option, none, some, Bool, true, false, cond, not, _&&_, _||_, length, getD, drop, replicate, eqb, ltb}
+use Rattle.format.specs.Basis.{ℕ, _+_, _*_, _-_, _/_, _%_, _^_, List, [], _∷_, _++_, Option, none, some, Bool, cond, not, _&&_, _||_, length, getD, drop, replicate, eqb, ltb}
 use Rattle.format.specs.declared.Refusal.{Refusal}
 use Rattle.format.specs.declared.Refusal.the-variants.{Edition, FourCc, Short, NotDwords, Long, Reserved, Model, Program, Size, Room, ZeroLength, PastEnd, OperandCount, Layout, NoReading, OutputShort}
 use Rattle.format.specs.declared.Answer.{Answer}

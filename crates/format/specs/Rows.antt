@@ -2,10 +2,10 @@
 use Rattle.format.specs.Basis.{ℕ, _+_, _*_, _%_, _^_, List, [], _∷_, _++_, Bool, cond, length, ltb}
 use Rattle.format.specs.Dwords.{bits}
 use Rattle.format.specs.Framing.{code, codeOf, long}
-use Rattle.format.specs.Counts.{Fields, ofType, typeBits}
+use Rattle.format.specs.Counts.{ofType, typeBits}
 use Rattle.format.specs.Operands as op
 use Rattle.format.specs.Operands.{Tree, none, plain, node}
-use Rattle.format.specs.Declarations.{Layout, layout}
+use Rattle.format.specs.Declarations.{layout}
 use Rattle.format.specs.Instructions.{Instruction, unread, pieces, fieldsOf, extensions, dwords}
 
 -- words: immediates, index dwords and other dwords as read
