@@ -28,7 +28,7 @@ unfolding readItems op.partsDwords
 makes-items m [] ds = met refl
 makes-items m (i ∷ l) ds = all-then (makes-item m i ds) (λ p r e. all-then (makes-items m l r) (λ ps q e₁. met (rw (append-assoc, e₁, e))))
 
-makes-head : (x : Layout) (t : ℕ) (ds : List ℕ) → Makes (λ l. l) ds (readHead x t ds)
+pub makes-head : (x : Layout) (t : ℕ) (ds : List ℕ) → Makes (λ l. l) ds (readHead x t ds)
 unfolding readHead
 makes-head x t ds = all-if (sized t) _ _ ds (λ z. all-weaken (λ l r e. e .0) (some-length 1 ds)) (λ z. all-weaken (λ l r e. e .0) (chain-linked (chained x && follows t) ds))
 
