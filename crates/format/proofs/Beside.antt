@@ -80,7 +80,7 @@ module _ (chunk : List ℕ) where
 
   -- ---- all of them
   besides : (lo n r w r′ w′ : ℕ) (l : List Instruction) → drop n (dwordsOf chunk) ≡ allDwords l → (k : ℕ) → k < length l → Beside lo chunk (nth (4 * n) r w l k) (nth (4 * n) r′ w′ (map (lower lo) l) k)
-  unfolding nth allDwords map
+  unfolding nth allDwords
   besides lo n r w r′ w′ [] z k h = impossible (omega arith)
   besides lo n r w r′ w′ (i ∷ l) z zero h =
       let q : 4 * n / 4 ≡ n = omega arith in
