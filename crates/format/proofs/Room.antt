@@ -273,7 +273,7 @@ reads-fit {c} {m} {ds} (cons t i left {j = j} {l = l} n s e k) at₀ r w f ha hr
       words = rw (words-append (parts j) (allParts l)) (fit-append (fit-parts-words (parts j) (p .0)) (g .words));
     }
 
-reads-count : {c : ℕ} {m : Bool} {ds : List ℕ} {l : List Instruction} → Reads c m ds l → length l ≤ length ds
+pub reads-count : {c : ℕ} {m : Bool} {ds : List ℕ} {l : List Instruction} → Reads c m ds l → length l ≤ length ds
 reads-count nil = omega arith
 reads-count (cons t i left n s e k) = omega (arith, reads-count k, ap length s, length-append i left)
 

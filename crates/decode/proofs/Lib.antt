@@ -1,0 +1,3 @@
+mod Marks
+mod Ended
+mod Decodes

@@ -1,0 +1,28 @@
+use mathlib.Core.Path.{_∙_}
+use borrow.Author.Needs.{needs}
+use Rattle.format.specs.Framing.{long}
+use Rattle.header.proofs.Tests.{within-two, and-first, and-second}
+use Rattle.header.proofs.long.Statement.{statement}
+use Rattle.header.proofs.long.Tie as tie
+
+code-requires : tie.Need-code-requires
+code-requires c κs = search needs
+
+one-of-requires : tie.Need-one-of-requires
+one-of-requires c κs = search needs
+
+follows-requires : tie.Need-follows-requires
+follows-requires c κs = search needs
+
+returns : tie.Need-returns
+unfolding long
+returns c =
+    let b = c .before in
+    and-second (rw (b .before .before .code .ensures) at (b .before .one-of .ensures ∙ within-two _ _ _)) (b .if1 .taken) (c .follows .ensures)
+
+returns-2 : tie.Need-returns-2
+unfolding long
+returns-2 c = and-first _ (rw (c .before .before .code .ensures) at (c .before .one-of .ensures ∙ within-two _ _ _)) (c .if1 .left)
+
+pub long-spec : {M : Type 1} → statement M
+long-spec = tie.close (tie.spec code-requires one-of-requires follows-requires returns returns-2)

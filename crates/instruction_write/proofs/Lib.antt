@@ -1,0 +1,5 @@
+pub mod Types
+pub mod Rowed
+pub mod Looping
+pub mod Parted
+pub mod Knowing

@@ -1,0 +1,363 @@
+// Writes an instruction that was accepted: its row, the rows of its operands and its words.
+ghost use mathlib.Core.Path.{_≡_};
+ghost use mathlib.Core.Bool.{true, cond};
+ghost use mathlib.Core.List.{_++_};
+ghost use Prim.Native.Nat.{_<_, _≤_};
+ghost use lib.ListN.{length, getD, drop};
+ghost use lib.Dec.{ltb};
+ghost use lib.Seq.{slice};
+ghost use Rattle.format.specs.Dwords.{dwordsOf};
+ghost use Rattle.format.specs.Counts as ct;
+ghost use Rattle.format.specs.Framing.{code};
+ghost use Rattle.format.specs.Declarations.{layout};
+ghost use Rattle.format.specs.Instructions as ins;
+ghost use Rattle.layouts.specs.Shapes.{Laid, meant, itemsOf};
+ghost use Rattle.instruction_write.specs.Writes as w;
+use header::long;
+use instruction::fields_of;
+use instruction::head;
+use layouts::Shape;
+use layouts::layout_of;
+use operand_write::Sums;
+use operand_write::copy;
+use tokens::Skip;
+use tokens::dword;
+use tokens::dwords;
+
+// The rows of operands and the words that were written.
+pub struct Sizes {
+    pub rows: usize,
+    pub words: usize,
+}
+
+// The sixteen numbers of an instruction's row.
+struct Row {
+    offset: u32,
+    dwords: u32,
+    code: u32,
+    kind: u32,
+    saturate: u32,
+    test: u32,
+    precise: u32,
+    field: u32,
+    extensions: u32,
+    offsets: u32,
+    second: u32,
+    third: u32,
+    row: u32,
+    operands: u32,
+    word: u32,
+    words: u32,
+}
+
+// Stores a row at the front of a pool.
+fn put_row(rows: &mut [u32], r: Row)
+    requires { ⌜ 16 ≤ length (now rows) ⌝ }
+    ensures { λ _. ⌜ now (rows .exit) ≡ w.listed r ++ drop 16 (now (rows .entry)) ⌝ }
+{
+    rows[0] = r.offset;
+    rows[1] = r.dwords;
+    rows[2] = r.code;
+    rows[3] = r.kind;
+    rows[4] = r.saturate;
+    rows[5] = r.test;
+    rows[6] = r.precise;
+    rows[7] = r.field;
+    rows[8] = r.extensions;
+    rows[9] = r.offsets;
+    rows[10] = r.second;
+    rows[11] = r.third;
+    rows[12] = r.row;
+    rows[13] = r.operands;
+    rows[14] = r.word;
+    rows[15] = r.words;
+}
+
+// The extension of a type, between two places; 0 if there is none.
+fn of_type(part: &[u8], from: usize, to: usize, k: u32) -> u32
+    requires { ⌜ (from ≤ to) × (to ≤ length (dwordsOf (now part))) ⌝ }
+    ensures { λ r. ⌜ r ≡ ct.ofType k (slice from to (dwordsOf (now (part .entry)))) ⌝ }
+{
+    let mut at = from;
+    while at < to {
+        let e = dword(part, at);
+        if e % 64 == k {
+            return e;
+        }
+        at += 1;
+    }
+    0
+}
+
+// The bit of a type: 1, 2, 4 for types 1, 2, 3.
+fn type_bit(k: u32) -> u32
+    requires { ⌜ (0 < k) × (k < 4) ⌝ }
+    ensures { λ r. ⌜ r ≡ w.typeBit k ⌝ }
+{
+    if k == 1 {
+        return 1;
+    }
+    if k == 2 {
+        return 2;
+    }
+    4
+}
+
+// The bits of the types of extensions that rise, between two places.
+fn type_bits(part: &[u8], from: usize, to: usize) -> u32
+    requires { ⌜ (from ≤ to) × (to ≤ length (dwordsOf (now part))) × (ct.rising 0 (slice from to (dwordsOf (now part))) ≡ true) ⌝ }
+    ensures { λ r. ⌜ (r ≡ ct.typeBits (slice from to (dwordsOf (now (part .entry))))) × (r < 8) ⌝ }
+{
+    let mut bits = 0;
+    let mut at = from;
+    while at < to {
+        bits += type_bit(dword(part, at) % 64);
+        at += 1;
+    }
+    bits
+}
+
+// Where the extensions end, which kinds 1 and 2 alone have.
+fn chain_end(kind: u32, end: usize) -> usize
+    ensures { λ r. ⌜ r ≡ cond (ltb kind 3) end 1 ⌝ }
+{
+    if kind < 3 { end } else { 1 }
+}
+
+// 8 for the long form.
+fn long_bit(t: u32) -> u32
+    ensures { λ r. ⌜ r ≡ w.longBit t ⌝ }
+{
+    if long(t) { 8 } else { 0 }
+}
+
+// A number as a place.
+fn wide(x: u32) -> usize
+    ensures { λ r. ⌜ r ≡ x ⌝ }
+{
+    x as usize
+}
+
+// The row of an instruction whose code is known, and whose chain or length dword ends at a place.
+fn known_row(
+    part: &[u8],
+    s: Shape,
+    t: u32,
+    end: usize,
+    offset: u32,
+    row: u32,
+    word: u32,
+    words: usize,
+) -> Row
+    requires { ⌜ w.RowReady s (dwordsOf (now part)) end words ⌝ }
+    ensures { λ r. ⌜ w.listed r ≡ w.rowFor (meant s) t (slice 1 end (dwordsOf (now (part .entry)))) offset (length (dwordsOf (now (part .entry)))) row (s .operands) word words ⌝ }
+{
+    let to = chain_end(s.kind, end);
+    let f = fields_of(s, t);
+    Row {
+        offset,
+        dwords: dwords(part) as u32,
+        code: t % 2048,
+        kind: s.kind,
+        saturate: f.saturate,
+        test: f.test,
+        precise: f.precise,
+        field: f.field,
+        extensions: type_bits(part, 1, to) + long_bit(t),
+        offsets: of_type(part, 1, to, 1) / 0x200 % 0x1000,
+        second: of_type(part, 1, to, 2) % 0x8000_0000,
+        third: of_type(part, 1, to, 3) % 0x8000_0000,
+        row,
+        operands: s.operands,
+        word,
+        words: words as u32,
+    }
+}
+
+// The row of an instruction that is not read.
+fn unread_row(n: u32, code: u32, offset: u32, row: u32, word: u32) -> Row
+    ensures { λ r. ⌜ w.listed r ≡ w.plainRow n code offset row word ⌝ }
+{
+    Row {
+        offset,
+        dwords: n,
+        code,
+        kind: 0,
+        saturate: 0,
+        test: 0,
+        precise: 0,
+        field: 0,
+        extensions: 0,
+        offsets: 0,
+        second: 0,
+        third: 0,
+        row,
+        operands: 0,
+        word,
+        words: n,
+    }
+}
+
+// Writes an instruction that is not read: a row, and all its dwords as words.
+fn write_unread(
+    part: &[u8],
+    code: u32,
+    offset: u32,
+    row: u32,
+    word: u32,
+    instructions: &mut [u32],
+    words: &mut [u32],
+) -> Sizes
+    requires { ⌜ w.UnreadRoom (length (dwordsOf (now part))) (length (now instructions)) (length (now words)) ⌝ }
+    ensures { λ a. ⌜ w.Unread (dwordsOf (now (part .entry))) code offset row word (now (instructions .entry)) (now (words .entry)) a (now (instructions .exit)) (now (words .exit)) ⌝ }
+{
+    let n = dwords(part);
+    copy(part, 0, n, words);
+    put_row(instructions, unread_row(n as u32, code, offset, row, word));
+    Sizes { rows: 0, words: n }
+}
+
+// Writes so many operands from a place on, each into what the ones before it left of each pool.
+fn write_operands(
+    part: &[u8],
+    from: usize,
+    count: u32,
+    operands: &mut [u32],
+    words: &mut [u32],
+    row: usize,
+    word: usize,
+) -> Sums
+    requires { ⌜ w.Room (w.operandsOf count (drop from (dwordsOf (now part)))) (length (dwordsOf (now part))) from (length (now operands)) (length (now words)) row word ⌝ }
+    ensures { λ a. ⌜ w.WroteRun (w.operandsOf count (drop from (dwordsOf (now (part .entry))))) row word (now (operands .entry)) (now (words .entry)) a (now (operands .exit)) (now (words .exit)) ⌝ }
+{
+    let mut k = 0;
+    let mut s = 0;
+    let mut d = 0;
+    let mut i = 0;
+    while i < count {
+        let first = k * 16;
+        let x = operand_write::write(
+            part,
+            from + d,
+            64,
+            &mut operands[first..],
+            &mut words[s..],
+            row + k,
+            word + s,
+        );
+        k += x.rows;
+        s += x.words;
+        d += x.dwords;
+        i += 1;
+    }
+    Sums {
+        rows: k,
+        words: s,
+        dwords: d,
+    }
+}
+
+// Writes the parts of an instruction, from a place on to its end: dwords, operands, and all dwords behind them.
+fn write_parts(
+    part: &[u8],
+    at: usize,
+    s: Shape,
+    model51: bool,
+    operands: &mut [u32],
+    words: &mut [u32],
+    row: usize,
+    word: usize,
+) -> Sizes
+    requires { ⌜ w.BodyRoom (ins.readItems model51 (itemsOf s) (drop at (dwordsOf (now part)))) s (length (dwordsOf (now part))) at (length (now operands)) (length (now words)) row word ⌝ }
+    ensures { λ a. ⌜ w.WroteBody (ins.readItems model51 (itemsOf s) (drop at (dwordsOf (now (part .entry))))) row word (now (operands .entry)) (now (words .entry)) a (now (operands .exit)) (now (words .exit)) ⌝ }
+{
+    let before = wide(s.before);
+    copy(part, at, before, words);
+    let x = write_operands(
+        part,
+        at + before,
+        s.operands,
+        operands,
+        &mut words[before..],
+        row,
+        word + before,
+    );
+    let end = at + before + x.dwords;
+    let first = before + x.words;
+    let left = dwords(part) - end;
+    copy(part, end, left, &mut words[first..]);
+    Sizes {
+        rows: x.rows,
+        words: first + left,
+    }
+}
+
+// Writes an instruction whose code is known, by its shape.
+fn write_known(
+    part: &[u8],
+    s: Shape,
+    t: u32,
+    model51: bool,
+    offset: u32,
+    row: u32,
+    word: u32,
+    instructions: &mut [u32],
+    operands: &mut [u32],
+    words: &mut [u32],
+) -> Sizes
+    requires { ⌜ (t ≡ getD (dwordsOf (now part)) 0 0) × Laid (code t) s × w.Ready (ins.judged (layout (code t)) (ins.split model51 (layout (code t)) (dwordsOf (now part)))) (dwordsOf (now part)) (length (now instructions)) (length (now operands)) (length (now words)) offset row word ⌝ }
+    ensures { λ a. ⌜ w.Written (ins.judged (layout (code t)) (ins.split model51 (layout (code t)) (dwordsOf (now (part .entry))))) offset row word (now (instructions .entry)) (now (operands .entry)) (now (words .entry)) a (now (instructions .exit)) (now (operands .exit)) (now (words .exit)) ⌝ }
+{
+    let Skip::To(end) = head(part, s, t) else {
+        return Sizes { rows: 0, words: 0 };
+    };
+    let x = write_parts(
+        part,
+        end,
+        s,
+        model51,
+        operands,
+        words,
+        wide(row),
+        wide(word),
+    );
+    put_row(
+        instructions,
+        known_row(part, s, t, end, offset, row, word, x.words),
+    );
+    x
+}
+
+// Writes an instruction that was accepted, to the front of each pool: its own dwords, under a ceiling, in model 5.1 or not.
+pub fn write(
+    part: &[u8],
+    ceiling: u32,
+    model51: bool,
+    offset: u32,
+    row: u32,
+    word: u32,
+    instructions: &mut [u32],
+    operands: &mut [u32],
+    words: &mut [u32],
+) -> Sizes
+    requires { ⌜ w.Ready (ins.read ceiling model51 (dwordsOf (now part))) (dwordsOf (now part)) (length (now instructions)) (length (now operands)) (length (now words)) offset row word ⌝ }
+    ensures { λ a. ⌜ w.Written (ins.read ceiling model51 (dwordsOf (now (part .entry)))) offset row word (now (instructions .entry)) (now (operands .entry)) (now (words .entry)) a (now (instructions .exit)) (now (operands .exit)) (now (words .exit)) ⌝ }
+{
+    let t = dword(part, 0);
+    let code = t % 2048;
+    if ceiling <= code {
+        return write_unread(part, code, offset, row, word, instructions, words);
+    }
+    write_known(
+        part,
+        layout_of(code),
+        t,
+        model51,
+        offset,
+        row,
+        word,
+        instructions,
+        operands,
+        words,
+    )
+}

@@ -1,0 +1,6 @@
+pub mod Each
+pub mod Lines
+pub mod Shapes
+pub mod Table
+pub mod Others
+pub mod Fields

@@ -1,0 +1,14 @@
+-- One comparison for each run of codes of the line.
+use mathlib.Core.Path.{refl}
+use Rattle.format.specs.Counts.{numbers}
+use Rattle.layouts.specs.Shapes.{line}
+use Rattle.layouts.proofs.Lines.{by-runs}
+use Rattle.layouts.proofs.has_six.Statement.{statement}
+use Rattle.layouts.proofs.has_six.Tie as tie
+
+returns : tie.Need-returns
+unfolding numbers
+returns c = by-runs (line 6) refl (c .args .code)
+
+pub has-six-spec : {M : Type 1} → statement M
+has-six-spec = tie.close (tie.spec returns)

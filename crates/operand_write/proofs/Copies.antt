@@ -1,0 +1,27 @@
+-- Laws of dwords that are copied to the front of a list.
+use Prim.Native.Nat.{ℕ, suc, _+_, _-_, _*_, _<_, _≤_}
+use mathlib.Core.Path.{_≡_, refl, sym, _∙_, ap, subst}
+use mathlib.Core.List.{List, [], _∷_, _++_, append-assoc}
+use native.Mathlib.Nat.{zero-add}
+use native.Mathlib.Numerals.{add-one}
+use native.Mathlib.Omega.{arith}
+use lib.ListN.{length, take, drop, getD, set, length-drop, length-set, length-append}
+use lib.Seq.{paste-suc, getD-drop, take-at, drop-at, drop-drop, length-take-le}
+
+pub record Copying (ds ws₀ : List ℕ) (at n i : ℕ) (ws : List ℕ) : Type 0 where
+  pub is : ws ≡ take i (drop at ds) ++ drop i ws₀
+  pub within : i ≤ n
+  pub long : length ws ≡ length ws₀
+
+step : (ds ws₀ : List ℕ) (at i : ℕ) → at + i < length ds → i < length ws₀ → set (take i (drop at ds) ++ drop i ws₀) i (getD ds (at + i) 0) ≡ take (i + 1) (drop at ds) ++ drop (i + 1) ws₀
+step ds ws₀ at i h l =
+    let q = simp (zero-add, getD-drop) at (paste-suc ws₀ 0 (drop at ds) i 0 (rw (zero-add i) l) (rw (length-drop at ds) (omega arith))) in
+    rw (add-one i) q
+
+pub copies : {ds ws₀ ws : List ℕ} {at n i : ℕ} → Copying ds ws₀ at n i ws → at + n ≤ length ds → n ≤ length ws₀ → i < n → (x : ℕ) → x ≡ getD ds (at + i) 0 → Copying ds ws₀ at n (i + 1) (set ws i x)
+copies {ds} {ws₀} {ws} {at} {n} {i} g h l k x ex =
+    record {
+      is = rw (ex, g .is) (step ds ws₀ at i (omega arith) (omega arith));
+      within = omega arith;
+      long = length-set ws i x ∙ g .long;
+    }

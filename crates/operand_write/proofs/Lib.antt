@@ -1,0 +1,4 @@
+pub mod Lists
+pub mod Copies
+pub mod Readings
+pub mod Writing

@@ -1,0 +1,278 @@
+// Writes an operand that was measured: its rows and its words.
+use tokens::Skip;
+ghost use mathlib.Core.Path.{_≡_};
+ghost use mathlib.Core.List.{_++_};
+ghost use Prim.Native.Nat.{_+_, _-_, _<_, _≤_, _^_};
+ghost use lib.ListN.{length, drop, take};
+ghost use lib.Seq.{slice};
+ghost use Rattle.format.specs.Dwords.{dwordsOf};
+ghost use Rattle.format.specs.Operands as op;
+ghost use Rattle.format.specs.Rows as rows;
+ghost use Rattle.operand_write.specs.Writes as w;
+
+// The rows and words that were written, and the dwords that were taken.
+pub struct Sums {
+    pub rows: usize,
+    pub words: usize,
+    pub dwords: usize,
+}
+
+struct Row {
+    kind: u32,
+    form: u32,
+    selection: u32,
+    modifiers: u32,
+    imm: u32,
+    imms: u32,
+    dimension: u32,
+    reprs: u32,
+    w0: u32,
+    w1: u32,
+    w2: u32,
+    c0: u32,
+    c1: u32,
+    c2: u32,
+    rows: u32,
+    dwords: u32,
+}
+
+// Stores a row at the front of a pool.
+fn put_row(ops: &mut [u32], r: Row)
+    requires { ⌜ 16 ≤ length (now ops) ⌝ }
+    ensures { λ _. ⌜ now (ops .exit) ≡ w.listed r ++ drop 16 (now (ops .entry)) ⌝ }
+{
+    ops[0] = r.kind;
+    ops[1] = r.form;
+    ops[2] = r.selection;
+    ops[3] = r.modifiers;
+    ops[4] = r.imm;
+    ops[5] = r.imms;
+    ops[6] = r.dimension;
+    ops[7] = r.reprs;
+    ops[8] = r.w0;
+    ops[9] = r.w1;
+    ops[10] = r.w2;
+    ops[11] = r.c0;
+    ops[12] = r.c1;
+    ops[13] = r.c2;
+    ops[14] = r.rows;
+    ops[15] = r.dwords;
+}
+
+// Copies n dwords of a part, from a place on, to the front of a pool.
+pub fn copy(part: &[u8], at: usize, n: usize, words: &mut [u32])
+    requires { ⌜ (at + n ≤ length (dwordsOf (now part))) × (n ≤ length (now words)) ⌝ }
+    ensures { λ _. ⌜ now (words .exit) ≡ take n (drop at (dwordsOf (now (part .entry)))) ++ drop n (now (words .entry)) ⌝ }
+{
+    let mut i = 0;
+    while i < n {
+        words[i] = tokens::dword(part, at + i);
+        i += 1;
+    }
+}
+
+// A place, if it is used.
+fn placed(used: bool, p: usize) -> u32
+    requires { ⌜ p < 2 ^ 32 ⌝ }
+    ensures { λ r. ⌜ r ≡ rows.placed used p ⌝ }
+{
+    if used { p as u32 } else { 0 }
+}
+
+// The row of an operand with m immediates; a, b and c are the sums after each index.
+fn make_row(
+    token: u32,
+    modifiers: u32,
+    m: usize,
+    row: usize,
+    word: usize,
+    a: Sums,
+    b: Sums,
+    c: Sums,
+) -> Row
+    requires { ⌜ w.Fits m row word a b c ⌝ }
+    ensures { λ r. ⌜ w.listed r ≡ w.rowFor token modifiers m word (word + m) (word + a .words) (word + b .words) (row + 1) (row + a .rows) (row + b .rows) (c .rows) (c .dwords) ⌝ }
+{
+    let r0 = tokens::repr(0, token);
+    let r1 = tokens::repr(1, token);
+    let r2 = tokens::repr(2, token);
+    Row {
+        kind: tokens::type_of(token),
+        form: tokens::form(token),
+        selection: tokens::selection(token),
+        modifiers,
+        imm: placed(0 < m, word),
+        imms: m as u32,
+        dimension: tokens::dimension(token),
+        reprs: tokens::reprs(token),
+        w0: placed(0 < tokens::own(r0), word + m),
+        w1: placed(0 < tokens::own(r1), word + a.words),
+        w2: placed(0 < tokens::own(r2), word + b.words),
+        c0: placed(tokens::nests(r0), row + 1),
+        c1: placed(tokens::nests(r1), row + a.rows),
+        c2: placed(tokens::nests(r2), row + b.rows),
+        rows: c.rows as u32,
+        dwords: c.dwords as u32,
+    }
+}
+
+// Writes an operand of immediates, whose front is read.
+fn leaf(
+    part: &[u8],
+    at: usize,
+    token: u32,
+    body: usize,
+    modifiers: u32,
+    ops: &mut [u32],
+    words: &mut [u32],
+    row: usize,
+    word: usize,
+) -> Sums
+    requires { ⌜ w.Front (dwordsOf (now part)) at body modifiers × w.Room (op.readImmediates token (slice (at + 1) body (dwordsOf (now part))) (drop body (dwordsOf (now part)))) (length (now ops)) (length (now words)) row word ⌝ }
+    ensures { λ a. ⌜ w.Wrote (op.readImmediates token (slice (at + 1) body (dwordsOf (now (part .entry)))) (drop body (dwordsOf (now (part .entry))))) row word (now (ops .entry)) (now (words .entry)) a (now (ops .exit)) (now (words .exit)) ⌝ }
+{
+    let m = tokens::immediates(token);
+    copy(part, body, m, words);
+    let sums = Sums {
+        rows: 1,
+        words: m,
+        dwords: body - at + m,
+    };
+    put_row(
+        ops,
+        make_row(token, modifiers, m, row, word, sums, sums, sums),
+    );
+    sums
+}
+
+// Writes the dwords of its own that an index has, behind what is counted.
+fn own_words(part: &[u8], at: usize, r: u32, words: &mut [u32], before: Sums) -> Sums
+    requires { ⌜ w.OwnRoom (length (dwordsOf (now part))) at (op.own r) (length (now words)) before ⌝ }
+    ensures { λ a. ⌜ w.Owned (dwordsOf (now (part .entry))) at (op.own r) before (now (words .entry)) a (now (words .exit)) ⌝ }
+{
+    let start = before.words;
+    let own = tokens::own(r);
+    copy(part, at + before.dwords, own, &mut words[start..]);
+    Sums {
+        rows: before.rows,
+        words: start + own,
+        dwords: before.dwords + own,
+    }
+}
+
+// Writes one dword behind what is counted.
+fn one_word(part: &[u8], at: usize, words: &mut [u32], before: Sums) -> Sums
+    requires { ⌜ w.OwnRoom (length (dwordsOf (now part))) at 1 (length (now words)) before ⌝ }
+    ensures { λ a. ⌜ w.Owned (dwordsOf (now (part .entry))) at 1 before (now (words .entry)) a (now (words .exit)) ⌝ }
+{
+    let start = before.words;
+    let place = at + before.dwords;
+    words[start] = tokens::dword(part, place);
+    Sums {
+        rows: before.rows,
+        words: start + 1,
+        dwords: before.dwords + 1,
+    }
+}
+
+// Writes an index with dwords or an operand behind what is counted.
+fn present(
+    part: &[u8],
+    at: usize,
+    r: u32,
+    left: usize,
+    ops: &mut [u32],
+    words: &mut [u32],
+    row: usize,
+    word: usize,
+    before: Sums,
+) -> Sums
+    requires { ⌜ (0 < left) × w.Ready (op.readIndex (op.operand (left - 1)) r (drop (at + before .dwords) (dwordsOf (now part)))) (length (dwordsOf (now part))) at (length (now ops)) (length (now words)) row word before ⌝ }
+    ensures { λ a. ⌜ w.WroteNext (op.readIndex (op.operand (left - 1)) r (drop (at + before .dwords) (dwordsOf (now (part .entry))))) row word before (now (ops .entry)) (now (words .entry)) a (now (ops .exit)) (now (words .exit)) ⌝ }
+{
+    let next = own_words(part, at, r, words, before);
+    if !tokens::nests(r) {
+        return next;
+    }
+    let first = next.rows * 16;
+    let start = next.words;
+    let x = write(
+        part,
+        at + next.dwords,
+        left - 1,
+        &mut ops[first..],
+        &mut words[start..],
+        row + next.rows,
+        word + start,
+    );
+    Sums {
+        rows: next.rows + x.rows,
+        words: start + x.words,
+        dwords: next.dwords + x.dwords,
+    }
+}
+
+// Writes an index of a representation behind what is counted.
+fn index(
+    part: &[u8],
+    at: usize,
+    r: u32,
+    left: usize,
+    ops: &mut [u32],
+    words: &mut [u32],
+    row: usize,
+    word: usize,
+    before: Sums,
+) -> Sums
+    requires { ⌜ (0 < left) × w.Ready (op.readIndex (op.operand (left - 1)) r (drop (at + before .dwords) (dwordsOf (now part)))) (length (dwordsOf (now part))) at (length (now ops)) (length (now words)) row word before ⌝ }
+    ensures { λ a. ⌜ w.WroteNext (op.readIndex (op.operand (left - 1)) r (drop (at + before .dwords) (dwordsOf (now (part .entry))))) row word before (now (ops .entry)) (now (words .entry)) a (now (ops .exit)) (now (words .exit)) ⌝ }
+{
+    if r == 8 {
+        return before;
+    }
+    if r == 0 {
+        return one_word(part, at, words, before);
+    }
+    present(part, at, r, left, ops, words, row, word, before)
+}
+
+// Writes an operand that was measured, at a place, with so many depths left.
+pub fn write(
+    part: &[u8],
+    at: usize,
+    left: usize,
+    ops: &mut [u32],
+    words: &mut [u32],
+    row: usize,
+    word: usize,
+) -> Sums
+    requires { ⌜ w.Room (op.operand left (drop at (dwordsOf (now part)))) (length (now ops)) (length (now words)) row word ⌝ }
+    ensures { λ a. ⌜ w.Wrote (op.operand left (drop at (dwordsOf (now (part .entry))))) row word (now (ops .entry)) (now (words .entry)) a (now (ops .exit)) (now (words .exit)) ⌝ }
+{
+    let token = tokens::dword(part, at);
+    let none = Sums {
+        rows: 1,
+        words: 0,
+        dwords: 0,
+    };
+    let Skip::To(body) = tokens::chain(part, at + 1, tokens::follows(token)) else {
+        return none;
+    };
+    let x = tokens::modifiers_of(part, at + 1, body);
+    if tokens::immediate(token) {
+        return leaf(part, at, token, body, x, ops, words, row, word);
+    }
+    let r0 = tokens::repr(0, token);
+    let r1 = tokens::repr(1, token);
+    let r2 = tokens::repr(2, token);
+    let a = index(part, body, r0, left, ops, words, row, word, none);
+    let b = index(part, body, r1, left, ops, words, row, word, a);
+    let c = index(part, body, r2, left, ops, words, row, word, b);
+    let sums = Sums {
+        rows: c.rows,
+        words: c.words,
+        dwords: body - at + c.dwords,
+    };
+    put_row(ops, make_row(token, x, 0, row, word, a, b, sums));
+    sums
+}

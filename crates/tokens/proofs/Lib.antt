@@ -1,0 +1,4 @@
+pub mod Bytes
+pub mod Fields
+pub mod Chains
+pub mod Places

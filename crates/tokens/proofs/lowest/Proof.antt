@@ -1,0 +1,22 @@
+use Rattle.tokens.proofs.Fields.{low-none}
+use borrow.Author.Needs.{needs}
+use Rattle.tokens.proofs.lowest.Statement.{statement}
+use Rattle.tokens.proofs.lowest.Tie as tie
+
+returns : tie.Need-returns
+returns c = search needs
+
+returns-2 : tie.Need-returns-2
+returns-2 c = search needs
+
+returns-3 : tie.Need-returns-3
+returns-3 c = search needs
+
+returns-4 : tie.Need-returns-4
+returns-4 c = search needs
+
+returns-5 : tie.Need-returns-5
+returns-5 c = low-none _ (c .match .rest .0 .0 .0 .1) (c .match .rest .0 .0 .1) (c .match .rest .0 .1) (c .match .rest .1)
+
+pub lowest-spec : {M : Type 1} → statement M
+lowest-spec = tie.close (tie.spec returns returns-2 returns-3 returns-4 returns-5)
