@@ -1,3 +1,4 @@
 mod Marks
 mod Ended
 mod Decodes
+mod Unique

@@ -15,3 +15,4 @@ pub mod Entries
 pub mod Beside
 pub mod Room
 pub mod Demands
+pub mod Unique

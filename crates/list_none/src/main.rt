@@ -1,0 +1,4 @@
+// Lists no bytes at all.
+fn main() {
+    list::run();
+}

@@ -1,0 +1,4 @@
+// Lists the viewer's own shader.
+fn main() {
+    list::run();
+}
