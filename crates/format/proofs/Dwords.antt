@@ -1,11 +1,13 @@
 -- Laws of dwords and readers: what is read, with what is left, makes up the dwords.
 use Prim.Native.Nat.{ℕ, zero, suc, _+_, _*_, _/_, _%_, _^_, _<_}
-use mathlib.Core.Path.{_≡_, refl, ap}
+use mathlib.Core.Path.{_≡_, refl, sym, ap}
 use mathlib.Core.List.{List, [], _∷_, _++_}
 use mathlib.Core.Bool.{Bool, true, false, cond, _&&_}
 use lib.ListN.{length}
+use lib.Pow.{shr-shr}
+use native.Mathlib.Nat.{mod-add-div}
 use native.Mathlib.Omega.{arith}
-use Rattle.format.specs.Dwords.{Bytes, dwordOf, dwordsOf, bytesOf, follows, Got, malformed, got, Reader, then, dword, some, noneLeft, chain}
+use Rattle.format.specs.Dwords.{bitsFrom, Bytes, dwordOf, dwordsOf, bytesOf, follows, Got, malformed, got, Reader, then, dword, some, noneLeft, chain}
 
 pub impossible : {A : Type 0} → _≡_ {A = ℕ} 0 1 → A
 impossible z = let f : ⊥ = omega arith in absurd f
@@ -96,3 +98,7 @@ chain-linked false [] = met (refl, end)
 chain-linked false (x ∷ ds) = met (refl, end)
 chain-linked true [] = unmet
 chain-linked true (x ∷ ds) = all-then (chain-linked (follows x) ds) (λ l r e. met (ap (λ (k : List ℕ). x ∷ k) (e .0), link (e .1)))
+
+-- the bits of a number from a on: n of them, and those above
+pub bits-above : (t a n : ℕ) → t / 2 ^ a ≡ bitsFrom a n t + 2 ^ n * (t / 2 ^ (a + n))
+bits-above t a n = sym (rw (shr-shr t a n) at (mod-add-div (t / 2 ^ a) (2 ^ n)))

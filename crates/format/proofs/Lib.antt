@@ -2,6 +2,7 @@
 pub mod Cases
 pub mod Vectors
 pub mod Dwords
+pub mod Each
 pub mod Operands
 pub mod Instructions
 pub mod Rows

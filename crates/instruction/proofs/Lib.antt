@@ -5,3 +5,4 @@ pub mod Runs
 pub mod Verdicts
 pub mod Tokens
 pub mod Chained
+pub mod Counted

@@ -122,3 +122,10 @@ stopped q h e = lost-run (ran-off q h e)
 pub turn-to : {k : ℕ} {ds : List ℕ} {from i at rows words : ℕ} {exact f : Bool} {r w d : ℕ} {e : Bool} → Reading k ds from i at rows words exact → i < k → Told (op.operand 64 (drop at ds)) r w d e → f ≡ (exact && e) →
     Reading k ds from (i + 1) (at + d) (rows + r) (words + w) f
 turn-to q h x z = rw z (turn q h x)
+
+-- at most one
+pub one-ran : {k : ℕ} {ds : List ℕ} {at r w d : ℕ} {e : Bool} → at ≤ length ds → 0 < k → k ≤ 1 → Told (op.operand 64 (drop at ds)) r w d e → Run k ds at (Read r w (at + d) e)
+one-ran {k} {ds} {at} {r} {w} {d} {e} h l m x =
+    let a : 0 + r ≡ r = omega arith in
+    let b : 0 + w ≡ w = omega arith in
+    rw (a, b) at (finished (turn (begin k ds at h) l x) (omega arith))

@@ -233,12 +233,6 @@ no-list b e = rw e
 pub one-list : (b : ℕ) → (b ≡ 0 → ⊥) → 1 ≡ length (listed b)
 one-list b n = rw (ne-eqb b 0 n)
 
-pub a-tail : (b : Bool) → b ≡ true → 1 ≡ length (tailed b)
-a-tail b e = rw e
-
-pub no-tail : (b : Bool) → b ≡ false → 0 ≡ length (tailed b)
-no-tail b e = rw e
-
 pub item-sum : (x : Shape) (l t : ℕ) → l ≡ length (listed (x .list)) → t ≡ length (tailed (x .tail)) → x .before + x .operands + x .small + x .after + x .extra + l + t ≡ length (itemsOf x)
 unfolding itemsOf
 item-sum x l t e f = rw (e, f) (simp (length-append, length-replicate) (omega arith))

@@ -3,7 +3,7 @@ use Rattle.format.specs.Basis.{ℕ, _+_, _-_, _≤_, _≡_, List, _++_, Bool, t
 use Rattle.format.specs.Dwords.{bits, Got, malformed, got, then, noneLeft}
 use Rattle.format.specs.Counts.{Fields, tokenWith, rising}
 use Rattle.format.specs.Framing.{code}
-use Rattle.format.specs.Declarations.{Item, o, d, small, s, Layout, inBounds}
+use Rattle.format.specs.Declarations.{Item, o, d, small, s, Layout, layout, inBounds}
 use Rattle.layouts.specs.Shapes.{listed, tailed}
 use Rattle.layouts.specs.declared.Shape.{Shape}
 use Rattle.instruction.specs.declared.Operands.{Operands}
@@ -12,7 +12,7 @@ use Rattle.instruction.specs.declared.Body.{Body}
 use Rattle.instruction.specs.declared.Body.the-variants.{Read as BodyRead, Off as BodyOff}
 use Rattle.instruction.specs.declared.Fields.{Fields as CodeFields}
 use Rattle.format.specs.Operands.{Tree, exactParts}
-use Rattle.format.specs.Instructions.{readItems, Reading, ok, miscounted, inexact, fieldsOf, extensions}
+use Rattle.format.specs.Instructions.{readItems, Reading, ok, miscounted, inexact, fieldsOf, extensions, split, judged}
 use Rattle.format.specs.Rows.{partsRows, partsWords, parts}
 use Rattle.instruction.specs.declared.Verdict.{Verdict}
 use Rattle.instruction.specs.declared.Verdict.the-variants.{Fine, Miscounted, Inexact}
@@ -85,3 +85,11 @@ classed kind t n = not (eqb kind 5 && eqb (bits 11 15 t) 3) || eqb (n % 4) 0
 -- a token, the dwords after it and the number of those behind are exact
 unfoldable pub headed : Layout → ℕ → List ℕ → ℕ → Bool
 headed x t e n = eqb t (tokenWith (code t) (fieldsOf x t)) && rising 0 (extensions x e) && inBounds (x .field) t && classed (x .kind) t n
+
+-- a token without the bits that only some codes may have, and without an extension
+abbrev pub plainToken : ℕ → Bool
+plainToken t = eqb (bits 11 12 t) 0 && eqb (bits 14 18 t) 0 && eqb (bits 23 23 t) 0 && eqb (bits 31 31 t) 0
+
+-- what measuring answers of an instruction with the token t, in either model
+abbrev pub Judged : ℕ → List ℕ → Verdict → Type 0
+Judged t ds r = (m : Bool) → r ≡ verdict (judged (layout (code t)) (split m (layout (code t)) ds))

@@ -5,7 +5,10 @@ ghost use Prim.Native.Nat.{ℕ, _+_, _*_, _-_, _%_, _^_, _<_, _≤_};
 ghost use lib.ListN.{length, getD, drop, replicate};
 ghost use lib.Dec.{ltb, eqb};
 ghost use lib.Seq.{slice};
+ghost use mathlib.Core.Option.{some};
 ghost use Rattle.format.specs.Dwords.{dwordsOf, bits};
+ghost use Rattle.format.specs.Dwords as d;
+ghost use Rattle.format.specs.Counts.{operandCount};
 ghost use Rattle.format.specs.Framing as fr;
 ghost use Rattle.format.specs.Framing.{code};
 ghost use Rattle.format.specs.Declarations as dc;
@@ -14,18 +17,20 @@ ghost use Rattle.format.specs.Counts as ct;
 ghost use Rattle.format.specs.Instructions as ins;
 ghost use Rattle.layouts.specs.Shapes.{Sound, Laid, listed, tailed, meant, itemsOf};
 ghost use Rattle.tokens.specs.Chains.{ends as endsOf};
-ghost use Rattle.instruction.specs.Measure.{Passes, Bits, Listed, Ends, rest, fieldsIn, Run, bodyOf, sumOf, verdict, classed, headed};
+ghost use Rattle.instruction.specs.Measure.{Passes, Bits, Listed, Ends, rest, fieldsIn, Run, bodyOf, sumOf, verdict, classed, headed, plainToken, Judged};
 use header::long;
 use header::sized;
 use layouts::Shape;
+use layouts::counted_layout;
 use layouts::field_of;
 use layouts::in_bounds;
-use layouts::layout_of;
+use layouts::operand_count;
+use layouts::uncounted_layout;
 use operand::Measured;
 use tokens::Skip;
 use tokens::chain;
 use tokens::follows;
-ghost use mathlib.Core.Bool.{Bool, cond, _&&_};
+ghost use mathlib.Core.Bool.{Bool, false, cond, _&&_};
 use tokens::dword;
 use tokens::dwords;
 
@@ -292,9 +297,39 @@ fn operands_of(part: &[u8], from: usize, count: u32) -> Operands
     }
 }
 
-// Measures the parts of an instruction, from a place on to its end.
+// Measures an operand at a place, if there is to be one.
+fn operand_of(part: &[u8], at: usize, count: u32) -> Operands
+    requires { ⌜ (at ≤ length (dwordsOf (now part))) × (count ≤ 1) ⌝ }
+    ensures { λ r. ⌜ Run count (dwordsOf (now (part .entry))) at r ⌝ }
+{
+    if count == 0 {
+        return Operands::Read {
+            rows: 0,
+            words: 0,
+            end: at,
+            exact: true,
+        };
+    }
+    let Measured::Read {
+        rows,
+        words,
+        dwords,
+        exact,
+    } = operand::deep(part, at, 64)
+    else {
+        return Operands::Lost;
+    };
+    Operands::Read {
+        rows,
+        words,
+        end: at + dwords,
+        exact,
+    }
+}
+
+// Measures the parts of an instruction without a count, from a place on to its end.
 fn parts_of(part: &[u8], at: usize, s: Shape, model51: bool) -> Body
-    requires { ⌜ (at ≤ length (dwordsOf (now part))) × Sound s ⌝ }
+    requires { ⌜ (at ≤ length (dwordsOf (now part))) × Sound s × (s .operands ≤ 1) ⌝ }
     ensures { λ r. ⌜ r ≡ bodyOf (sumOf model51 (itemsOf s) (drop at (dwordsOf (now (part .entry))))) ⌝ }
 {
     let Place::At(a) = past_dwords(part, at, s.before) else {
@@ -305,7 +340,7 @@ fn parts_of(part: &[u8], at: usize, s: Shape, model51: bool) -> Body
         words,
         end,
         exact,
-    } = operands_of(part, a, s.operands)
+    } = operand_of(part, a, s.operands)
     else {
         return Body::Off;
     };
@@ -447,9 +482,9 @@ fn exact_head(part: &[u8], s: Shape, t: u32, end: usize) -> bool
     exact_class(s.kind, t, dwords(part) - end)
 }
 
-// Measures an instruction whose code is known, by its shape.
-fn measure_known(part: &[u8], s: Shape, t: u32, model51: bool) -> Verdict
-    requires { ⌜ (0 < length (dwordsOf (now part))) × (t ≡ getD (dwordsOf (now part)) 0 0) × Laid (code t) s ⌝ }
+// Measures an instruction whose code has no count, by its shape.
+fn measure_uncounted(part: &[u8], s: Shape, t: u32, model51: bool) -> Verdict
+    requires { ⌜ (0 < length (dwordsOf (now part))) × (t ≡ getD (dwordsOf (now part)) 0 0) × Laid (code t) s × (s .operands ≤ 1) ⌝ }
     ensures { λ r. ⌜ r ≡ verdict (ins.judged (layout (code t)) (ins.split model51 (layout (code t)) (dwordsOf (now (part .entry))))) ⌝ }
 {
     let Skip::To(end) = head(part, s, t) else {
@@ -467,6 +502,56 @@ fn measure_known(part: &[u8], s: Shape, t: u32, model51: bool) -> Verdict
     Verdict::Fine { rows, words }
 }
 
+// Whether a token has only its code, its length, saturate and precise, which every counted code may have.
+pub fn plain(t: u32) -> bool
+    ensures { λ r. ⌜ r ≡ plainToken t ⌝ }
+{
+    (t / 0x800 % 4 == 0)
+        & (t / 0x4000 % 32 == 0)
+        & (t / 0x80_0000 % 2 == 0)
+        & (t / 0x8000_0000 % 2 == 0)
+}
+
+// Whether the dwords of an instruction of n operands in front of them, which stand at a place, are exactly those of its layout.
+fn exact_counted(part: &[u8], n: u32, t: u32, end: usize) -> bool
+    requires { ⌜ (operandCount (code t) ≡ some n) × (d.follows t ≡ false → end ≡ 1) × (1 ≤ end) × (end ≤ length (dwordsOf (now part))) ⌝ }
+    ensures { λ r. ⌜ r ≡ headed (layout (code t)) t (slice 1 end (dwordsOf (now (part .entry)))) (length (dwordsOf (now (part .entry))) - end) ⌝ }
+{
+    if plain(t) {
+        return true;
+    }
+    exact_head(part, counted_layout(t % 2048, n), t, end)
+}
+
+// Measures an instruction whose code has n operands.
+fn measure_counted(part: &[u8], n: u32, t: u32) -> Verdict
+    requires { ⌜ (0 < length (dwordsOf (now part))) × (t ≡ getD (dwordsOf (now part)) 0 0) × (operandCount (code t) ≡ some n) ⌝ }
+    ensures { λ r. ⌜ Judged t (dwordsOf (now (part .entry))) r ⌝ }
+{
+    let Skip::To(end) = chain(part, 1, follows(t)) else {
+        return fault(counted_layout(t % 2048, n));
+    };
+    let Operands::Read {
+        rows,
+        words,
+        end: after,
+        exact,
+    } = operands_of(part, end, n)
+    else {
+        return fault(counted_layout(t % 2048, n));
+    };
+    if !exact {
+        return Verdict::Inexact;
+    }
+    if !exact_counted(part, n, t, end) {
+        return Verdict::Inexact;
+    }
+    Verdict::Fine {
+        rows,
+        words: words + (dwords(part) - after),
+    }
+}
+
 // Measures an instruction: its own dwords, under a ceiling, in model 5.1 or not.
 pub fn measure(part: &[u8], ceiling: u32, model51: bool) -> Verdict
     requires { ⌜ 0 < length (dwordsOf (now part)) ⌝ }
@@ -480,5 +565,9 @@ pub fn measure(part: &[u8], ceiling: u32, model51: bool) -> Verdict
             words: dwords(part),
         };
     }
-    measure_known(part, layout_of(code), t, model51)
+    let n = operand_count(code);
+    if n < 7 {
+        return measure_counted(part, n, t);
+    }
+    measure_uncounted(part, uncounted_layout(code), t, model51)
 }

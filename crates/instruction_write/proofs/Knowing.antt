@@ -1,33 +1,33 @@
 -- From an instruction that was accepted to what is written of it.
-use Prim.Native.Nat.{ℕ, zero, suc, _+_, _-_, _*_, _^_, _<_, _≤_}
+use Prim.Native.Nat.{ℕ, _*_, _<_, _≤_}
 use mathlib.Core.Path.{_≡_, refl, sym, _∙_, ap, subst}
 use mathlib.Core.Bool.{Bool, true, false, cond, _&&_}
 use mathlib.Core.List.{List, [], _∷_, _++_, append-nil}
 use native.Mathlib.Omega.{arith}
-use lib.ListN.{length, getD, take, drop}
+use lib.ListN.{length, getD, drop}
 use lib.Seq.{slice}
 use lib.Dec.{eqb}
 use borrow.Author.Tests.{lt-ltb}
-use Rattle.format.specs.Dwords.{Got, malformed, got, then, dword, noneLeft}
+use Rattle.format.specs.Dwords.{Got, malformed, got, then, noneLeft}
 use Rattle.format.specs.Framing.{code, codeOf}
 use Rattle.format.specs.Counts.{tokenWith, rising}
 use Rattle.format.specs.Declarations.{Layout, layout, inBounds}
 use Rattle.format.specs.Operands as op
-use Rattle.format.specs.Operands.{Tree, none, plain}
-use Rattle.format.specs.Instructions.{Instruction, unread, pieces, Reading, ok, miscounted, inexact, readHead, readItems, split, fault, fieldsOf, extensions, exactClass, exactPieces, checked, judged, read, dwords}
+use Rattle.format.specs.Operands.{Tree}
+use Rattle.format.specs.Instructions.{Instruction, unread, pieces, Reading, ok, inexact, readHead, readItems, split, fieldsOf, extensions, exactClass, exactPieces, checked, judged, read, dwords}
 use Rattle.format.specs.Rows.{treeRows, treeWords, treeTable, partsRows, partsWords, partsTable, topLevel, parts, unreadRow, instructionRow}
 use Rattle.format.proofs.Dwords.{impossible, both}
-use Rattle.format.proofs.Instructions.{makes-split, kept-ok, kept-fault, kept-judged, read-known, read-unknown}
+use Rattle.format.proofs.Instructions.{makes-split, kept-ok, kept-fault, kept-judged, read-unknown}
 use Rattle.layouts.specs.declared.Shape.{Shape}
 use Rattle.layouts.specs.Shapes.{Laid, meant, itemsOf}
 use Rattle.tokens.proofs.Places.{dword-at}
 use Rattle.tokens.specs.Chains.{ends}
 use Rattle.tokens.specs.declared.Skip.{Skip}
-use Rattle.tokens.specs.declared.Skip.the-variants.{To, Off}
+use Rattle.tokens.specs.declared.Skip.the-variants.{Off}
 use Rattle.instruction.proofs.Verdicts.{Headed, head-off}
-use Rattle.instruction_write.specs.Writes.{rowFor, plainRow, RowReady, Room, Put, BodyRoom, WroteBody, UnreadRoom, Unread, Ready, Stored, Written}
+use Rattle.instruction_write.specs.Writes.{rowFor, plainRow, RowReady, Put, BodyRoom, WroteBody, UnreadRoom, Unread, Ready, Stored, Written}
 use Rattle.instruction_write.specs.declared.Sizes.{Sizes}
-use Rattle.instruction_write.proofs.Parted.{Three, three}
+use Rattle.instruction_write.proofs.Parted.{three}
 
 -- one reading in place of another that is the same
 pub ready-at : {g h : Reading} {ds : List ℕ} {rows ops ws at row word : ℕ} → g ≡ h → Ready g ds rows ops ws at row word → Ready h ds rows ops ws at row word
@@ -111,7 +111,7 @@ module _ (m : Bool) (s : Shape) (t : ℕ) (ds : List ℕ) (et : t ≡ getD ds 0 
     items-are : readItems m (itemsOf s) (drop b ds) ≡ got (acc .trees) []
     items-are = ap (readItems m (itemsOf s)) (sym middle-is) ∙ acc .items
 
-    pub known-room : BodyRoom (readItems m (itemsOf s) (drop b ds)) s (length ds) b ops ws row word
+    pub known-room : BodyRoom (readItems m (itemsOf s) (drop b ds)) (length ds) b ops ws row word
     known-room =
         let e : parts (q .instruction) ≡ acc .trees = parts-are (acc .is) in
         let r : partsRows (parts (q .instruction)) ≡ partsRows (acc .trees) = ap partsRows e in
@@ -129,7 +129,6 @@ module _ (m : Bool) (s : Shape) (t : ℕ) (ds : List ℕ) (et : t ≡ getD ds 0 
             few = omega (arith, q .at-fits);
           };
           whole = refl;
-          sound = la .sound;
         }
 
     module _ {L W L′ W′ : List ℕ} {a : Sizes} (wr : WroteBody (readItems m (itemsOf s) (drop b ds)) row word L W a L′ W′) where
@@ -217,10 +216,10 @@ module _ (c : ℕ) (m : Bool) (ds : List ℕ) (t : ℕ) (et : t ≡ getD ds 0 0)
         };
       })
 
--- places as the code widens them
-pub room-as : {g : Got (List Tree)} {s : Shape} {n at ops ws row word row′ word′ : ℕ} → row′ ≡ row → word′ ≡ word → BodyRoom g s n at ops ws row word → BodyRoom g s n at ops ws row′ word′
-room-as {g} {s} {n} {at} {ops} {ws} {row} {word} {row′} {word′} e f q = rw (e, f) q
+-- places as the code widens them, and one reading of items in place of another
+pub room-as : {g h : Got (List Tree)} {n at ops ws row word row′ word′ : ℕ} → g ≡ h → row′ ≡ row → word′ ≡ word → BodyRoom g n at ops ws row word → BodyRoom h n at ops ws row′ word′
+room-as {n = n} {at = at} {ops = ops} {ws = ws} {row = row} {word = word} z e f q = rw (e, f) (subst (λ (k : Got (List Tree)). BodyRoom k n at ops ws row word) z q)
 
-pub body-as : {g : Got (List Tree)} {row word row′ word′ : ℕ} {ops ws ops′ ws′ : List ℕ} {a : Sizes} → row′ ≡ row → word′ ≡ word → WroteBody g row′ word′ ops ws a ops′ ws′ → WroteBody g row word ops ws a ops′ ws′
-body-as {g} {row} {word} {row′} {word′} {ops} {ws} {ops′} {ws′} {a} e f w ps z =
-    subst (λ (r : ℕ). Put ps r word ops ws (a .rows) (a .words) ops′ ws′) e (subst (λ (k : ℕ). Put ps row′ k ops ws (a .rows) (a .words) ops′ ws′) f (w ps z))
+pub body-as : {g h : Got (List Tree)} {row word row′ word′ : ℕ} {ops ws ops′ ws′ : List ℕ} {a : Sizes} → g ≡ h → row′ ≡ row → word′ ≡ word → WroteBody h row′ word′ ops ws a ops′ ws′ → WroteBody g row word ops ws a ops′ ws′
+body-as {row = row} {word = word} {row′ = row′} {word′ = word′} {ops = ops} {ws = ws} {ops′ = ops′} {ws′ = ws′} {a = a} y e f w ps z =
+    subst (λ (r : ℕ). Put ps r word ops ws (a .rows) (a .words) ops′ ws′) e (subst (λ (k : ℕ). Put ps row′ k ops ws (a .rows) (a .words) ops′ ws′) f (w ps (sym y ∙ z)))

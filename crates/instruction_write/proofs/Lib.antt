@@ -3,3 +3,5 @@ pub mod Rowed
 pub mod Looping
 pub mod Parted
 pub mod Knowing
+mod Plainly
+mod Counting

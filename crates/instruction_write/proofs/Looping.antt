@@ -1,7 +1,7 @@
 -- Operands that are written one after the other: what holds at the loop's head, and how a turn takes it on.
-use Prim.Native.Nat.{ℕ, zero, suc, _+_, _-_, _*_, _^_, _<_, _≤_}
+use Prim.Native.Nat.{ℕ, suc, _+_, _-_, _*_, _^_, _<_, _≤_}
 use mathlib.Core.Path.{_≡_, refl, sym, _∙_, ap, subst}
-use mathlib.Core.Bool.{Bool, true, false}
+use mathlib.Core.Bool.{Bool, false}
 use mathlib.Core.List.{List, [], _∷_, _++_, append-assoc, append-nil}
 use native.Mathlib.Omega.{arith}
 use lib.ListN.{length, take, drop, replicate, length-append, length-drop}
@@ -251,3 +251,48 @@ ended {ds} {from} {count} {row} {word} {ops₀} {ws₀} {ops} {ws} {i} {k} {s} {
       },
       e₂ ∙ sym (g .dwords-are),
     )
+
+-- one operand, or none
+module _ (ds : List ℕ) (from count row word : ℕ) (ops ws : List ℕ) (q : Room (operandsOf count (drop from ds)) (length ds) from (length ops) (length ws) row word) (h : 0 < count) where
+  abbrev start : Doing ds from count row word ops ws ops ws 0 0 0 0
+  start = begin {ops = ops} {ws = ws} q
+
+  abbrev one : Tree
+  one = t start h
+
+  one-read : op.operand 64 (drop from ds) ≡ got one (head start h .left)
+  one-read = let e : from ≡ from + 0 = omega arith in ap (λ (n : ℕ). op.operand 64 (drop n ds)) e ∙ read start h
+
+  pub one-room : ow.Room (op.operand 64 (drop from ds)) (length ops) (length ws) row word
+  one-room = record {
+    tree = one;
+    rest = head start h .left;
+    is = one-read;
+    for-rows = omega (arith, turn-of start h);
+    for-words = omega (arith, turn-of start h);
+    row-fits = omega (arith, turn-of start h);
+    word-fits = omega (arith, turn-of start h);
+    dwords-fit = omega (arith, turn-of start h);
+  }
+
+  pub one-ran : {a : Sums} {ops′ ws′ : List ℕ} → count ≤ 1 → ow.Wrote (op.operand 64 (drop from ds)) row word ops ws a ops′ ws′ → WroteRun (operandsOf count (drop from ds)) row word ops ws a ops′ ws′
+  unfolding readItems partsRows partsWords partsTable op.partsDwords begin
+  one-ran {a} {ops′} {ws′} k wr ps r e =
+      let f = head start h in
+      let p = wr one (f .left) one-read in
+      let z : count - (0 + 1) ≡ 0 = omega arith in
+      let n : operandsOf 0 (f .left) ≡ got (f .more) (q .rest) = sym (ap (λ (m : ℕ). operandsOf m (f .left)) z) ∙ f .others in
+      let y : [] ≡ f .more = cc in
+      let v₀ : got (q .trees) (q .rest) ≡ got ps r = sym (q .is) ∙ e in
+      let v₁ : q .trees ≡ ps = cc in
+      let v : one ∷ [] ≡ ps = ap (λ (l : List Tree). one ∷ l) y ∙ sym (f .all) ∙ v₁ in
+      let er : treeRows one ≡ treeRows one + 0 = omega arith in
+      subst (λ (l : List Tree). Put l row word ops ws (a .rows) (a .words) ops′ ws′ × (a .dwords ≡ length (op.partsDwords l))) v (
+        record {
+          rows-are = p .rows-are ∙ er;
+          words-are = p .words-are ∙ ap length (sym (append-nil (treeWords one)));
+          rows-put = p .rows-put ∙ (λ i. sym (append-nil (treeTable row word one)) i ++ drop (16 * er i) ops);
+          words-put = p .words-put ∙ (λ i. sym (append-nil (treeWords one)) i ++ drop (length (sym (append-nil (treeWords one)) i)) ws);
+        },
+        p .dwords-are ∙ ap length (sym (append-nil (op.dwords one))),
+      )

@@ -1,26 +1,25 @@
 -- The parts of an instruction: dwords, operands, and dwords behind them.
 use Prim.Native.Nat.{ℕ, zero, suc, _+_, _-_, _*_, _%_, _^_, _<_, _≤_}
 use mathlib.Core.Path.{_≡_, refl, sym, _∙_, ap, subst}
-use mathlib.Core.Logic.{_⊎_}
 use mathlib.Core.Bool.{Bool, true, false, cond}
 use mathlib.Core.List.{List, [], _∷_, _++_, append-assoc, append-nil}
 use native.Mathlib.Nat.{zero-add}
 use native.Mathlib.Omega.{arith}
 use lib.ListN.{length, take, drop, replicate, length-append, length-drop}
-use lib.Seq.{drop-drop, drop-append-seam, take-append-seam, take-all}
+use lib.Seq.{take-append-seam, take-all}
 use lib.Dec.{eqb, ltb}
 use borrow.Rule.Slice.PartMut.{putMid}
-use Rattle.format.specs.Dwords.{Got, malformed, got, then, follows, Reader}
+use Rattle.format.specs.Dwords.{Got, malformed, got, then, follows}
 use Rattle.format.specs.Declarations.{Item, o, d, small, s, tail, list}
 use Rattle.format.specs.Operands as op
 use Rattle.format.specs.Operands.{Tree, none, plain, node}
 use Rattle.format.specs.Instructions.{readItem, readItems}
 use Rattle.format.specs.Rows.{treeRows, treeWords, treeTable, partsRows, partsWords, partsTable, topLevel}
-use Rattle.format.proofs.Dwords.{impossible, All, unmet, met, all-then, all-if, all-weaken, makes-dword, some-length, chain-linked}
+use Rattle.format.proofs.Dwords.{All, unmet, met, all-then, all-if, makes-dword, some-length, chain-linked}
 use Rattle.format.proofs.Instructions.{makes-items}
-use Rattle.format.proofs.Rows.{parts-length, rows-append, words-append, table-append, parts-fit}
+use Rattle.format.proofs.Rows.{rows-append, words-append, table-append}
 use Rattle.layouts.specs.declared.Shape.{Shape}
-use Rattle.layouts.specs.Shapes.{Sound, itemsOf, listed, tailed}
+use Rattle.layouts.specs.Shapes.{itemsOf, listed, tailed}
 use Rattle.instruction.specs.Measure.{rest}
 use Rattle.operand_write.specs.Writes.{Over}
 use Rattle.operand_write.specs.declared.Sums.{Sums}
@@ -28,7 +27,7 @@ use Rattle.operand_write.proofs.Lists.{lent-length, back, over-more, over-front
 use Rattle.tokens.proofs.Places.{left-at, read-within}
 use Rattle.instruction_write.specs.Writes.{operandsOf, Room, Put, WroteRun, BodyRoom, WroteBody}
 use Rattle.instruction_write.specs.declared.Sizes.{Sizes}
-use Rattle.instruction_write.proofs.Looping.{all-got, First, first-of}
+use Rattle.instruction_write.proofs.Looping.{all-got, first-of}
 
 -- parts that are dwords as they are
 data Plain : List Tree → Type 0 where
@@ -145,7 +144,7 @@ both-of m (i ∷ a) b ds {ps} {r} e =
       all = f .all ∙ ap (λ (l : List Tree). f .tree ∷ l) (q .all);
     }
 
-then-same : (f h : List ℕ → Got (List Tree)) → ((r : List ℕ) → f r ≡ h r) → (g : Got Tree) →
+pub then-same : (f h : List ℕ → Got (List Tree)) → ((r : List ℕ) → f r ≡ h r) → (g : Got Tree) →
     then g (λ x r. then (f r) (λ ps q. got (x ∷ ps) q)) ≡ then g (λ x r. then (h r) (λ ps q. got (x ∷ ps) q))
 then-same f h e malformed = refl
 then-same f h e (got t r) = ap (λ (k : Got (List Tree)). then k (λ ps q. got (t ∷ ps) q)) (e r)
@@ -266,7 +265,7 @@ three m x ds at ps h e =
       words-long = ap length W ∙ length-append (take (x .before) (drop at ds) ++ partsWords p₂) _ ∙ omega (arith, length-append (take (x .before) (drop at ds)) (partsWords p₂), k₁, k₃);
     }
 
-module _ (m : Bool) (x : Shape) (ds : List ℕ) (at : ℕ) {ops ws row word : ℕ} (q : BodyRoom (readItems m (itemsOf x) (drop at ds)) x (length ds) at ops ws row word) where
+module _ (m : Bool) (x : Shape) (ds : List ℕ) (at : ℕ) {ops ws row word : ℕ} (q : BodyRoom (readItems m (itemsOf x) (drop at ds)) (length ds) at ops ws row word) where
   pub split : Three m x ds at (q .room .trees)
   split = three m x ds at (q .room .trees) (q .room .within) (q .room .is ∙ ap (got (q .room .trees)) (q .whole))
 
@@ -323,18 +322,6 @@ module _ (m : Bool) (x : Shape) (ds : List ℕ) (at : ℕ) {ops ws row word : �
       pub ran : Put (split .trees) row (word + b) L (take (length W₁ - b) (drop b W₁)) (a .rows) (a .words) L′ zs × (a .dwords ≡ length (op.partsDwords (split .trees)))
       ran = wr (split .trees) (split .left) (ap (λ (n : ℕ). operandsOf (x .operands) (drop (at + n) ds)) eb ∙ split .is)
 
-      pub record Known : Type 0 where
-        pub counted-are : Counted
-        pub long : length W ≡ ws
-        pub long₁ : length W₁ ≡ length W
-        pub before : b ≡ x .before
-        pub rows : a .rows ≡ partsRows (split .trees)
-        pub words : a .words ≡ length (partsWords (split .trees))
-        pub dwords : a .dwords ≡ length (op.partsDwords (split .trees))
-
-      pub known : Known
-      known = record { counted-are = counted; long = lw; long₁ = same₁; before = eb; rows = ran .0 .rows-are; words = ran .0 .words-are; dwords = ran .1 }
-
       abbrev pub W₂ : List ℕ
       W₂ = putMid b (length W₁ - b) W₁ zs
 
@@ -346,15 +333,28 @@ module _ (m : Bool) (x : Shape) (ds : List ℕ) (at : ℕ) {ops ws row word : �
       front-long : length (take (x .before) (drop at ds) ++ partsWords (split .trees)) ≡ x .before + length (partsWords (split .trees))
       front-long = length-append (take (x .before) (drop at ds)) (partsWords (split .trees)) ∙ omega (arith, split .before-long)
 
-      pub same₂ : length W₂ ≡ length W
+      same₂ : length W₂ ≡ length W
       same₂ = over-length 0 (take (x .before) (drop at ds) ++ partsWords (split .trees)) W W₂ (omega (arith, front-long, counted)) over₂
+
+      pub record Known : Type 0 where
+        pub counted-are : Counted
+        pub long : length W ≡ ws
+        pub long₁ : length W₁ ≡ length W
+        pub long₂ : length W₂ ≡ length W
+        pub before : b ≡ x .before
+        pub rows : a .rows ≡ partsRows (split .trees)
+        pub words : a .words ≡ length (partsWords (split .trees))
+        pub dwords : a .dwords ≡ length (op.partsDwords (split .trees))
+
+      pub known : Known
+      known = record { counted-are = counted; long = lw; long₁ = same₁; long₂ = same₂; before = eb; rows = ran .0 .rows-are; words = ran .0 .words-are; dwords = ran .1 }
 
       module _ (n e f k : ℕ) (en : n ≡ length ds) (ee : e ≡ at + b + a .dwords) (ef : f ≡ b + a .words) (ek : k ≡ n - e) where
         end-is : e ≡ split .end
         end-is = omega (arith, known)
 
         pub copy-room : (e + k ≤ length ds) × (k ≤ length (take (length W₂ - f) (drop f W₂)))
-        copy-room = let ll = lent-length f W₂ in let ls = same₂ in let z = end-is in (omega (arith, known), omega (arith, known))
+        copy-room = let ll = lent-length f W₂ in let z = end-is in (omega (arith, known), omega (arith, known))
 
         pub written : (vs : List ℕ) → vs ≡ take k (drop e ds) ++ drop k (take (length W₂ - f) (drop f W₂)) → (z : Sizes) → z .rows ≡ a .rows → z .words ≡ f + k
             → WroteBody (readItems m (itemsOf x) (drop at ds)) row word L W z L′ (putMid f (length W₂ - f) W₂ vs)

@@ -1,20 +1,23 @@
 -- What is written of an instruction: its row, the rows of its operands and its words.
 use Prim.Native.Nat.{ℕ, _+_, _-_, _*_, _%_, _^_, _<_, _≤_}
 use mathlib.Core.Path.{_≡_}
-use mathlib.Core.Bool.{Bool, true, false, cond}
+use mathlib.Core.Bool.{true, false, cond}
 use mathlib.Core.List.{List, [], _∷_, _++_}
-use lib.ListN.{length, drop, getD, replicate}
+use lib.ListN.{length, drop, replicate}
 use lib.Seq.{slice}
+use mathlib.Core.Option.{some}
 use Rattle.format.specs.Dwords.{bits, Got, got, Reader}
 use Rattle.format.specs.Framing.{code, long}
-use Rattle.format.specs.Counts.{ofType, typeBits, rising}
-use Rattle.format.specs.Declarations.{Layout, layout, o}
+use Rattle.format.specs.Counts.{operandCount, ofType, typeBits, rising}
+use Rattle.format.specs.Declarations.{Item, Layout, o}
 use Rattle.format.specs.Operands as op
 use Rattle.format.specs.Operands.{Tree}
-use Rattle.format.specs.Instructions.{Instruction, unread, pieces, Reading, ok, readItems, split, judged, read, fieldsOf, extensions}
-use Rattle.format.specs.Rows.{partsRows, partsWords, partsTable, parts, topLevel, unreadRow, instructionRow}
+use Rattle.format.specs.Instructions.{Instruction, Reading, ok, readItems, read, fieldsOf, extensions}
+use Rattle.format.specs.Rows.{partsRows, partsWords, partsTable, parts, instructionRow}
 use Rattle.layouts.specs.declared.Shape.{Shape}
-use Rattle.layouts.specs.Shapes.{Sound, Laid, meant, itemsOf}
+use Rattle.layouts.specs.Shapes.{Sound, meant, itemsOf}
+use Rattle.layouts.specs.Table.{plainShape, widthOf}
+use Rattle.instruction.specs.Measure.{plainToken}
 use Rattle.operand_write.specs.declared.Sums.{Sums}
 use Rattle.instruction_write.specs.declared.Row.{Row}
 use Rattle.instruction_write.specs.declared.Sizes.{Sizes}
@@ -44,12 +47,29 @@ rowFor x t e at n r k w m =
 abbrev pub plainRow : ℕ → ℕ → ℕ → ℕ → ℕ → List ℕ
 plainRow n c at r w = at ∷ n ∷ c ∷ 0 ∷ 0 ∷ 0 ∷ 0 ∷ 0 ∷ 0 ∷ 0 ∷ 0 ∷ 0 ∷ r ∷ 0 ∷ w ∷ n ∷ []
 
+-- the shape of a code of n operands
+abbrev pub countedShape : ℕ → ℕ → Shape
+countedShape c n = plainShape 1 (widthOf c) n true
+
+-- its items, which are the same for every such code
+abbrev pub countedItems : ℕ → List Item
+countedItems n = itemsOf (countedShape 0 n)
+
 -- a row can be made: what stands after the token is exact, and the numbers fit
 pub record RowReady (s : Shape) (ds : List ℕ) (end words : ℕ) : Type 0 where
   pub sound : Sound s
   pub from : 1 ≤ end
   pub within : end ≤ length ds
   pub rises : rising 0 (extensions (meant s) (slice 1 end ds)) ≡ true
+  pub few : length ds < 2 ^ 32
+  pub words-fit : words < 2 ^ 32
+
+-- the row of a plain token can be made
+pub record PlainReady (ds : List ℕ) (t words : ℕ) : Type 0 where
+  pub count : ℕ
+  pub counts : operandCount (code t) ≡ some count
+  pub plain : plainToken t ≡ true
+  pub other : code t ≡ 190 → ⊥
   pub few : length ds < 2 ^ 32
   pub words-fit : words < 2 ^ 32
 
@@ -93,10 +113,9 @@ abbrev pub WroteRun : Got (List Tree) → ℕ → ℕ → List ℕ → List ℕ 
 WroteRun g row word ops ws a ops′ ws′ = (ps : List Tree) (r : List ℕ) → g ≡ got ps r → Put ps row word ops ws (a .rows) (a .words) ops′ ws′ × (a .dwords ≡ length (op.partsDwords ps))
 
 -- all items of an instruction were read, and there is room for them
-pub record BodyRoom (g : Got (List Tree)) (s : Shape) (n at ops ws row word : ℕ) : Type 0 where
+pub record BodyRoom (g : Got (List Tree)) (n at ops ws row word : ℕ) : Type 0 where
   pub room : Room g n at ops ws row word
   pub whole : room .rest ≡ []
-  pub sound : Sound s
 
 abbrev pub WroteBody : Got (List Tree) → ℕ → ℕ → List ℕ → List ℕ → Sizes → List ℕ → List ℕ → Type 0
 WroteBody g row word ops ws a ops′ ws′ = (ps : List Tree) → g ≡ got ps [] → Put ps row word ops ws (a .rows) (a .words) ops′ ws′

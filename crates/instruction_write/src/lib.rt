@@ -1,13 +1,16 @@
 // Writes an instruction that was accepted: its row, the rows of its operands and its words.
 ghost use mathlib.Core.Path.{_≡_};
-ghost use mathlib.Core.Bool.{true, cond};
-ghost use mathlib.Core.List.{_++_};
+ghost use mathlib.Core.Bool.{true, false, cond};
+ghost use mathlib.Core.Option.{some};
+ghost use mathlib.Core.List.{[], _++_};
 ghost use Prim.Native.Nat.{_<_, _≤_};
 ghost use lib.ListN.{length, getD, drop};
 ghost use lib.Dec.{ltb};
 ghost use lib.Seq.{slice};
 ghost use Rattle.format.specs.Dwords.{dwordsOf};
+ghost use Rattle.format.specs.Dwords as d;
 ghost use Rattle.format.specs.Counts as ct;
+ghost use Rattle.format.specs.Counts.{operandCount};
 ghost use Rattle.format.specs.Framing.{code};
 ghost use Rattle.format.specs.Declarations.{layout};
 ghost use Rattle.format.specs.Instructions as ins;
@@ -16,13 +19,18 @@ ghost use Rattle.instruction_write.specs.Writes as w;
 use header::long;
 use instruction::fields_of;
 use instruction::head;
+use instruction::plain;
 use layouts::Shape;
-use layouts::layout_of;
+use layouts::counted_layout;
+use layouts::operand_count;
+use layouts::uncounted_layout;
 use operand_write::Sums;
 use operand_write::copy;
 use tokens::Skip;
+use tokens::chain;
 use tokens::dword;
 use tokens::dwords;
+use tokens::follows;
 
 // The rows of operands and the words that were written.
 pub struct Sizes {
@@ -138,10 +146,11 @@ fn wide(x: u32) -> usize
     x as usize
 }
 
-// The row of an instruction whose code is known, and whose chain or length dword ends at a place.
+// The row of an instruction of so many operands, whose code is known, and whose chain or length dword ends at a place.
 fn known_row(
     part: &[u8],
     s: Shape,
+    operands: u32,
     t: u32,
     end: usize,
     offset: u32,
@@ -150,7 +159,7 @@ fn known_row(
     words: usize,
 ) -> Row
     requires { ⌜ w.RowReady s (dwordsOf (now part)) end words ⌝ }
-    ensures { λ r. ⌜ w.listed r ≡ w.rowFor (meant s) t (slice 1 end (dwordsOf (now (part .entry)))) offset (length (dwordsOf (now (part .entry)))) row (s .operands) word words ⌝ }
+    ensures { λ r. ⌜ w.listed r ≡ w.rowFor (meant s) t (slice 1 end (dwordsOf (now (part .entry)))) offset (length (dwordsOf (now (part .entry)))) row operands word words ⌝ }
 {
     let to = chain_end(s.kind, end);
     let f = fields_of(s, t);
@@ -168,10 +177,66 @@ fn known_row(
         second: of_type(part, 1, to, 2) % 0x8000_0000,
         third: of_type(part, 1, to, 3) % 0x8000_0000,
         row,
-        operands: s.operands,
+        operands,
         word,
         words: words as u32,
     }
+}
+
+// The row of a counted instruction whose token is plain, and whose code is not 190.
+fn plain_row(
+    part: &[u8],
+    operands: u32,
+    t: u32,
+    offset: u32,
+    row: u32,
+    word: u32,
+    words: usize,
+) -> Row
+    requires { ⌜ w.PlainReady (dwordsOf (now part)) t words ⌝ }
+    ensures { λ r. ⌜ w.listed r ≡ w.rowFor (layout (code t)) t [] offset (length (dwordsOf (now (part .entry)))) row operands word words ⌝ }
+{
+    Row {
+        offset,
+        dwords: dwords(part) as u32,
+        code: t % 2048,
+        kind: 1,
+        saturate: t / 0x2000 % 2,
+        test: 0,
+        precise: t / 0x8_0000 % 16,
+        field: 0,
+        extensions: 0,
+        offsets: 0,
+        second: 0,
+        third: 0,
+        row,
+        operands,
+        word,
+        words: words as u32,
+    }
+}
+
+// The row of an instruction of n operands, which stand at a place. Most have a plain token, and their row is soon made.
+fn counted_row(
+    part: &[u8],
+    n: u32,
+    t: u32,
+    end: usize,
+    offset: u32,
+    row: u32,
+    word: u32,
+    words: usize,
+) -> Row
+    requires { ⌜ w.RowReady (w.countedShape (code t) n) (dwordsOf (now part)) end words × (operandCount (code t) ≡ some n) × (d.follows t ≡ false → end ≡ 1) ⌝ }
+    ensures { λ r. ⌜ w.listed r ≡ w.rowFor (meant (w.countedShape (code t) n)) t (slice 1 end (dwordsOf (now (part .entry)))) offset (length (dwordsOf (now (part .entry)))) row n word words ⌝ }
+{
+    if plain(t) {
+        if t % 2048 != 190 {
+            return plain_row(part, n, t, offset, row, word, words);
+        }
+    }
+    let s = counted_layout(t % 2048, n);
+    known_row(part, s, n, t, end, offset, row, word, words)
 }
 
 // The row of an instruction that is not read.
@@ -257,7 +322,80 @@ fn write_operands(
     }
 }
 
-// Writes the parts of an instruction, from a place on to its end: dwords, operands, and all dwords behind them.
+// Writes the parts of an instruction of n operands, from a place on to its end: the operands, and all dwords behind them.
+fn write_counted_parts(
+    part: &[u8],
+    at: usize,
+    n: u32,
+    operands: &mut [u32],
+    words: &mut [u32],
+    row: usize,
+    word: usize,
+) -> Sizes
+    requires { ⌜ w.BodyRoom (ins.readItems false (w.countedItems n) (drop at (dwordsOf (now part)))) (length (dwordsOf (now part))) at (length (now operands)) (length (now words)) row word ⌝ }
+    ensures { λ a. ⌜ w.WroteBody (ins.readItems false (w.countedItems n) (drop at (dwordsOf (now (part .entry))))) row word (now (operands .entry)) (now (words .entry)) a (now (operands .exit)) (now (words .exit)) ⌝ }
+{
+    let x = write_operands(part, at, n, operands, &mut words[0..], row, word);
+    let end = at + x.dwords;
+    let first = x.words;
+    let left = dwords(part) - end;
+    copy(part, end, left, &mut words[first..]);
+    Sizes {
+        rows: x.rows,
+        words: first + left,
+    }
+}
+
+// Writes an instruction whose code has n operands; in either model it is the same.
+fn write_counted(
+    part: &[u8],
+    n: u32,
+    t: u32,
+    offset: u32,
+    row: u32,
+    word: u32,
+    instructions: &mut [u32],
+    operands: &mut [u32],
+    words: &mut [u32],
+) -> Sizes
+    requires { ⌜ (t ≡ getD (dwordsOf (now part)) 0 0) × (operandCount (code t) ≡ some n) × w.Ready (ins.judged (layout (code t)) (ins.split false (layout (code t)) (dwordsOf (now part)))) (dwordsOf (now part)) (length (now instructions)) (length (now operands)) (length (now words)) offset row word ⌝ }
+    ensures { λ a. ⌜ w.Written (ins.judged (layout (code t)) (ins.split false (layout (code t)) (dwordsOf (now (part .entry))))) offset row word (now (instructions .entry)) (now (operands .entry)) (now (words .entry)) a (now (instructions .exit)) (now (operands .exit)) (now (words .exit)) ⌝ }
+{
+    let Skip::To(end) = chain(part, 1, follows(t)) else {
+        return Sizes { rows: 0, words: 0 };
+    };
+    let x = write_counted_parts(part, end, n, operands, words, wide(row), wide(word));
+    put_row(
+        instructions,
+        counted_row(part, n, t, end, offset, row, word, x.words),
+    );
+    x
+}
+
+// Writes an operand at a place, if there is to be one.
+fn write_operand(
+    part: &[u8],
+    from: usize,
+    count: u32,
+    operands: &mut [u32],
+    words: &mut [u32],
+    row: usize,
+    word: usize,
+) -> Sums
+    requires { ⌜ w.Room (w.operandsOf count (drop from (dwordsOf (now part)))) (length (dwordsOf (now part))) from (length (now operands)) (length (now words)) row word × (count ≤ 1) ⌝ }
+    ensures { λ a. ⌜ w.WroteRun (w.operandsOf count (drop from (dwordsOf (now (part .entry))))) row word (now (operands .entry)) (now (words .entry)) a (now (operands .exit)) (now (words .exit)) ⌝ }
+{
+    if count == 0 {
+        return Sums {
+            rows: 0,
+            words: 0,
+            dwords: 0,
+        };
+    }
+    operand_write::deep(part, from, 64, operands, words, row, word)
+}
+
+// Writes the parts of an instruction without a count, from a place on to its end: dwords, an operand at most, and all dwords behind it.
 fn write_parts(
     part: &[u8],
     at: usize,
@@ -268,12 +406,12 @@ fn write_parts(
     row: usize,
     word: usize,
 ) -> Sizes
-    requires { ⌜ w.BodyRoom (ins.readItems model51 (itemsOf s) (drop at (dwordsOf (now part)))) s (length (dwordsOf (now part))) at (length (now operands)) (length (now words)) row word ⌝ }
+    requires { ⌜ w.BodyRoom (ins.readItems model51 (itemsOf s) (drop at (dwordsOf (now part)))) (length (dwordsOf (now part))) at (length (now operands)) (length (now words)) row word × (s .operands ≤ 1) ⌝ }
     ensures { λ a. ⌜ w.WroteBody (ins.readItems model51 (itemsOf s) (drop at (dwordsOf (now (part .entry))))) row word (now (operands .entry)) (now (words .entry)) a (now (operands .exit)) (now (words .exit)) ⌝ }
 {
     let before = wide(s.before);
     copy(part, at, before, words);
-    let x = write_operands(
+    let x = write_operand(
         part,
         at + before,
         s.operands,
@@ -292,8 +430,8 @@ fn write_parts(
     }
 }
 
-// Writes an instruction whose code is known, by its shape.
-fn write_known(
+// Writes an instruction whose code has no count, by its shape.
+fn write_uncounted(
     part: &[u8],
     s: Shape,
     t: u32,
@@ -305,7 +443,7 @@ fn write_known(
     operands: &mut [u32],
     words: &mut [u32],
 ) -> Sizes
-    requires { ⌜ (t ≡ getD (dwordsOf (now part)) 0 0) × Laid (code t) s × w.Ready (ins.judged (layout (code t)) (ins.split model51 (layout (code t)) (dwordsOf (now part)))) (dwordsOf (now part)) (length (now instructions)) (length (now operands)) (length (now words)) offset row word ⌝ }
+    requires { ⌜ (t ≡ getD (dwordsOf (now part)) 0 0) × Laid (code t) s × w.Ready (ins.judged (layout (code t)) (ins.split model51 (layout (code t)) (dwordsOf (now part)))) (dwordsOf (now part)) (length (now instructions)) (length (now operands)) (length (now words)) offset row word × (s .operands ≤ 1) ⌝ }
     ensures { λ a. ⌜ w.Written (ins.judged (layout (code t)) (ins.split model51 (layout (code t)) (dwordsOf (now (part .entry))))) offset row word (now (instructions .entry)) (now (operands .entry)) (now (words .entry)) a (now (instructions .exit)) (now (operands .exit)) (now (words .exit)) ⌝ }
 {
     let Skip::To(end) = head(part, s, t) else {
@@ -323,7 +461,7 @@ fn write_known(
     );
     put_row(
         instructions,
-        known_row(part, s, t, end, offset, row, word, x.words),
+        known_row(part, s, s.operands, t, end, offset, row, word, x.words),
     );
     x
 }
@@ -348,9 +486,13 @@ pub fn write(
     if ceiling <= code {
         return write_unread(part, code, offset, row, word, instructions, words);
     }
-    write_known(
+    let n = operand_count(code);
+    if n < 7 {
+        return write_counted(part, n, t, offset, row, word, instructions, operands, words);
+    }
+    write_uncounted(
         part,
-        layout_of(code),
+        uncounted_layout(code),
         t,
         model51,
         offset,

@@ -22,7 +22,7 @@ module _ (x : Shape) (t : ℕ) (h : Sound x) where
   exact : (t / 2 ^ x .first % 2 ^ x .width * 2 ^ (x .first - 11)) % 4294967296 ≡ t / 2 ^ x .first % 2 ^ x .width * 2 ^ (x .first - 11)
   exact = shl-exact (x .width) (x .first - 11) 32 (mod-lt _ (pow-pos (x .width))) (omega (arith, h .bits-from, h .bits-to))
 
-  value : t / 2 ^ x .first % 2 ^ x .width * 2 ^ (x .first - 11) ≡ fieldIn (fieldOf x) t
+  pub value : t / 2 ^ x .first % 2 ^ x .width * 2 ^ (x .first - 11) ≡ fieldIn (fieldOf x) t
   unfolding fieldIn fieldOf
   value = go (eqb (x .width) 0) refl (eqb (x .bounded) 0) refl
     where

@@ -1,4 +1,3 @@
-pub mod Each
 pub mod Lines
 pub mod Shapes
 pub mod Table

@@ -1,17 +1,20 @@
--- Whether a code stands in a line of the table of counts, by one comparison for each run of codes; and the count that it then has.
-use Prim.Native.Nat.{ℕ, zero, suc, _+_, _<_}
+-- Whether a code stands in a list, by one comparison for each run of codes; and the count of a code by its line, where a `match` tells.
+use Prim.Native.Nat.{ℕ, zero, suc, _+_}
 use mathlib.Core.Path.{_≡_, refl, sym, _∙_, ap}
 use mathlib.Core.Bool.{Bool, true, false, cond, _&&_, _||_}
-use mathlib.Core.List.{List, [], _∷_, _++_, map, append-nil}
+use mathlib.Core.List.{List, [], _∷_, _++_, map}
 use mathlib.Core.Option.{some}
 use native.Mathlib.Nat.{add-suc, suc-add}
 use native.Mathlib.Omega.{arith}
+use mathlib.Core.Logic.{inl, inr}
 use lib.Dec.{eqb, leb, ltb}
-use borrow.Author.Tests.{eqb-true, eqb-false, leb-true, leb-false, le-leb, lt-leb, lt-ltb, le-ltb}
-use Rattle.format.specs.Counts.{numbers, within, lineOf, operandCount}
-use Rattle.layouts.specs.declared.Count.the-variants.{Of, Uncounted}
-use Rattle.layouts.specs.Shapes.{counted, line}
-use Rattle.layouts.proofs.Each.{member}
+use lib.ListN.{getD, take, drop}
+use types.Run.{OneOf}
+use borrow.Author.Tests.{eqb-true, eqb-false, eq-eqb, ne-eqb, leb-true, leb-false, le-leb, lt-leb, lt-ltb, le-ltb}
+use Rattle.format.specs.Counts.{numbers, within, operandCounts, lineOf, operandCount}
+use Rattle.format.proofs.Dwords.{impossible}
+use Rattle.layouts.specs.Shapes.{counted}
+use Rattle.format.proofs.Each.{member}
 
 or-assoc : (a b c : Bool) → ((a || b) || c) ≡ (a || (b || c))
 or-assoc true b c = refl
@@ -44,12 +47,6 @@ span c (suc n) a l =
     ap (λ b. eqb c a || b) (span c n (suc a) l)
     ∙ sym (or-assoc (eqb c a) (leb (suc a) c && ltb c (suc a + n)) (within c l))
     ∙ ap (λ b. b || within c l) (first c a n (eqb c a) refl)
-
--- a number below n is one of the first n
-pub inside : (c n : ℕ) → c < n → within c (numbers n 0) ≡ true
-unfolding within
-inside c n h =
-    ap (within c) (sym (append-nil (numbers n 0))) ∙ span c n 0 [] ∙ rw (le-leb 0 c (omega arith), lt-ltb c (0 + n) (omega arith))
 
 -- ---- runs: the first code of each, and how many
 -- the runs of a list, where n numbers from a on have been passed
@@ -105,20 +102,68 @@ pub by-runs : (l : List ℕ) → codes (runs l) ≡ l → (c : ℕ) → compared
 by-runs l e c = folded (runs l) false c ∙ ap (within c) e
 
 -- ---- a code's line
--- the codes of line k have k operands
-alike : (k : ℕ) → k < 7 → map operandCount (line k) ≡ map (λ x. some k) (line k)
-unfolding numbers within lineOf operandCount
-alike k h = member (λ k. map operandCount (line k)) (λ k. map (λ x. some k) (line k)) (numbers 7 0) refl k (inside k 7 h)
+-- the codes of n operands
+abbrev pub line : ℕ → List ℕ
+line n = getD operandCounts n []
 
--- a code that stands in line k
-pub in-line : (c k : ℕ) → k < 7 → {r : Bool} → r ≡ within c (line k) → r ≡ true → Of k ≡ counted (operandCount c)
-in-line c k h p q = sym (ap counted (member operandCount (λ x. some k) (line k) (alike k h) c (sym p ∙ q)))
+-- the members of a list that pass a test
+abbrev pub passing : (ℕ → Bool) → List ℕ → List ℕ
+passing p [] = []
+passing p (x ∷ l) = cond (p x) (x ∷ passing p l) (passing p l)
 
--- what a call answered, and what the test of it told
-pub told : {r w : Bool} → r ≡ w → r ≡ false → w ≡ false
-told p q = sym p ∙ q
+-- what passes the test is a member if it is one of those
+among-passing : (p : ℕ → Bool) (c : ℕ) → p c ≡ true → (l : List ℕ) → within c l ≡ within c (passing p l)
+unfolding within
+among-passing p c h [] = refl
+among-passing p c h (x ∷ l) = go (p x) refl (eqb c x) refl (among-passing p c h l)
+  where
+    go : (b : Bool) → p x ≡ b → (e : Bool) → eqb c x ≡ e → within c l ≡ within c (passing p l) → (e || within c l) ≡ within c (cond b (x ∷ passing p l) (passing p l))
+    go true k e q r = rw (q, r)
+    go false k true q r = let z : p x ≡ true = rw (← eqb-true c x q) h in impossible (cc)
+    go false k false q r = r
 
--- a code that stands in none
-pub in-none : (c : ℕ) → within c (line 0) ≡ false → within c (line 1) ≡ false → within c (line 2) ≡ false → within c (line 3) ≡ false → within c (line 4) ≡ false → within c (line 5) ≡ false → within c (line 6) ≡ false → Uncounted ≡ counted (operandCount c)
+-- a key of a `match` is a member of the keys
+or-later : (k : ℕ) (ks : List ℕ) (c : ℕ) → OneOf (k ∷ ks) c → within c (k ∷ ks) ≡ true
+unfolding within
+or-later k [] c e = rw (eq-eqb c k e)
+or-later k (j ∷ ks) c (inl e) = rw (eq-eqb c k e)
+or-later k (j ∷ ks) c (inr r) = rw (or-later j ks c r) (or-true (eqb c k))
+  where
+    or-true : (b : Bool) → (b || true) ≡ true
+    or-true true = refl
+    or-true false = refl
+
+a-key : (ks : List ℕ) (c : ℕ) → OneOf ks c → within c ks ≡ true
+a-key [] c h = absurd h
+a-key (k ∷ ks) c h = or-later k ks c h
+
+pub no-key : (ks : List ℕ) (c : ℕ) → (OneOf ks c → ⊥) → within c ks ≡ false
+unfolding within
+no-key [] c h = refl
+no-key (k ∷ []) c h = rw (ne-eqb c k h)
+no-key (k ∷ j ∷ ks) c h = rw (ne-eqb c k (λ e. h (inl e))) (no-key (j ∷ ks) c (λ e. h (inr e)))
+
+-- a list in two arms
+pub no-keys : (n : ℕ) (ks : List ℕ) (c : ℕ) → within c (take n ks) ≡ false → within c (drop n ks) ≡ false → within c ks ≡ false
+unfolding within
+no-keys zero ks c p q = q
+no-keys (suc n) [] c p q = refl
+no-keys (suc n) (k ∷ ks) c p q = go (eqb c k) p (λ r. no-keys n ks c r q)
+  where
+    go : (b : Bool) → (b || within c (take n ks)) ≡ false → (within c (take n ks) ≡ false → within c ks ≡ false) → (b || within c ks) ≡ false
+    go true p f = p
+    go false p f = f p
+
+-- a key among codes that all have k operands
+pub by-key : (ks : List ℕ) (c k : ℕ) → map operandCount ks ≡ map (λ x. some k) ks → OneOf ks c → k ≡ counted (operandCount c)
+by-key ks c k e h = sym (ap counted (member operandCount (λ x. some k) ks e c (a-key ks c h)))
+
+-- a code that passes a test and is none of those of a line that pass it
+pub by-no-key : (p : ℕ → Bool) (c : ℕ) → p c ≡ true → within c (passing p (line 0)) ≡ false → within c (passing p (line 1)) ≡ false → within c (passing p (line 2)) ≡ false → within c (passing p (line 3)) ≡ false
+    → within c (passing p (line 4)) ≡ false → within c (passing p (line 5)) ≡ false → within c (passing p (line 6)) ≡ false → 7 ≡ counted (operandCount c)
 unfolding operandCount lineOf
-in-none c p0 p1 p2 p3 p4 p5 p6 = rw (p0, p1, p2, p3, p4, p5, p6)
+by-no-key p c h n0 n1 n2 n3 n4 n5 n6 =
+    rw (absent 0 n0, absent 1 n1, absent 2 n2, absent 3 n3, absent 4 n4, absent 5 n5, absent 6 n6)
+  where
+    absent : (k : ℕ) → within c (passing p (line k)) ≡ false → within c (line k) ≡ false
+    absent k n = among-passing p c h (line k) ∙ n

@@ -1,5 +1,5 @@
 -- The layout of a code with no row in the table of declarations.
-use Prim.Native.Nat.{ℕ, suc, _+_, _<_, _≤_}
+use Prim.Native.Nat.{ℕ, suc, _+_, _-_, _<_, _≤_}
 use mathlib.Core.Path.{_≡_, refl, sym, _∙_, ap}
 use mathlib.Core.Bool.{Bool, true, false, cond, _&&_, _||_}
 use mathlib.Core.List.{List, [], _∷_, _++_, map}
@@ -11,11 +11,10 @@ use borrow.Author.Tests.{eqb-true, le-ltb}
 use Rattle.format.specs.Counts.{numbers, within, _‥_, operandCounts, lineOf, operandCount}
 use Rattle.format.specs.Declarations.{Item, o, tail, Field, no, from, declarations, Layout, byCount, inTable, layout}
 use Rattle.format.proofs.Dwords.{impossible}
-use Rattle.layouts.specs.declared.Count.the-variants.{Of, Uncounted}
 use Rattle.layouts.specs.Shapes.{counted, fieldOf, itemsOf, Laid}
 use Rattle.layouts.specs.Table.{rowOf, plainShape, widthOf}
-use Rattle.layouts.proofs.Lines.{by-runs}
-use Rattle.layouts.proofs.Each.{absent}
+use Rattle.layouts.proofs.Lines.{by-runs, line}
+use Rattle.format.proofs.Each.{below, absent, member}
 use Rattle.layouts.proofs.Shapes.{plain-sound}
 
 -- a code that fails a test which all codes of the table pass is in none of its rows
@@ -35,6 +34,35 @@ line-under (l ∷ ls) n c k e = go (within c l) e (line-under ls (suc n) c k)
     go true e f = let h : n ≡ k = cc in omega arith
     go false e f = omega (arith, f e)
 
+-- and not below the first's
+line-over : (ls : List (List ℕ)) (n c k : ℕ) → lineOf n ls c ≡ some k → n ≤ k
+unfolding lineOf
+line-over [] n c k e = impossible (cc)
+line-over (l ∷ ls) n c k e = go (within c l) e (line-over ls (suc n) c k)
+  where
+    go : (b : Bool) → cond b (some n) (lineOf (suc n) ls c) ≡ some k → (lineOf (suc n) ls c ≡ some k → suc n ≤ k) → n ≤ k
+    go true e f = let h : n ≡ k = cc in omega arith
+    go false e f = omega (arith, f e)
+
+-- a code of line k stands in it
+line-in : (ls : List (List ℕ)) (n c k : ℕ) → lineOf n ls c ≡ some k → within c (getD ls (k - n) []) ≡ true
+unfolding lineOf
+line-in [] n c k e = impossible (cc)
+line-in (l ∷ ls) n c k e = go (within c l) refl e (line-in ls (suc n) c k)
+  where
+    go : (b : Bool) → within c l ≡ b → cond b (some n) (lineOf (suc n) ls c) ≡ some k → (lineOf (suc n) ls c ≡ some k → within c (getD ls (k - suc n) []) ≡ true) → within c (getD (l ∷ ls) (k - n) []) ≡ true
+    go true q e f = let h : n ≡ k = cc in let z : k - n ≡ 0 = omega arith in rw z q
+    go false q e f = let z : k - n ≡ suc (k - suc n) = omega (arith, line-over ls (suc n) c k e) in rw z (f e)
+
+-- the layouts of a line's codes are those that its count tells, computed once over all lines
+laid-by-count : (c n : ℕ) → operandCount c ≡ some n → layout c ≡ byCount c (some n)
+unfolding numbers within lineOf operandCount inTable layout
+laid-by-count c n e =
+    let h : n < 7 = omega (arith, line-under operandCounts 0 c n e) in
+    let all = below (λ k. map layout (line k)) (λ k. map (λ x. byCount x (some k)) (line k)) 7 refl n h in
+    let z : n - 0 ≡ n = omega arith in
+    member layout (λ x. byCount x (some n)) (line n) all c (rw z at (line-in operandCounts 0 c n e))
+
 module _ (c : ℕ) where
   -- a code with no row, no phase and no custom data: as it is counted
   pub by-count : 40 ≤ rowOf c → eqb c 53 ≡ false → (leb 113 c && ltb c 117) ≡ false → layout c ≡ byCount c (operandCount c)
@@ -52,25 +80,16 @@ module _ (c : ℕ) where
   phase e = record { meaning = rw (sym (by-runs (113 ‥ 116) refl c) ∙ e); sound = plain-sound 3 0 0 false (omega arith) (omega arith) (omega arith) (omega arith) }
 
   -- no count
-  pub uncounted : layout c ≡ byCount c (operandCount c) → Uncounted ≡ counted (operandCount c) → Laid c (plainShape 2 0 0 true)
+  pub opaque : layout c ≡ byCount c (operandCount c) → operandCount c ≡ none → Laid c (plainShape 2 0 0 true)
   unfolding fieldOf itemsOf
-  uncounted e h = go (operandCount c) e h
-    where
-      go : (n : Option ℕ) → layout c ≡ byCount c n → Uncounted ≡ counted n → Laid c (plainShape 2 0 0 true)
-      go none e h = record { meaning = sym e; sound = plain-sound 2 0 0 true (omega arith) (omega arith) (omega arith) (omega arith) }
-      go (some n) e h = impossible (cc)
+  opaque e h = record { meaning = sym (e ∙ ap (byCount c) h); sound = plain-sound 2 0 0 true (omega arith) (omega arith) (omega arith) (omega arith) }
 
-  -- a count, and the field bits of 61, 111 and 190
-  pub counts : (n : ℕ) → layout c ≡ byCount c (operandCount c) → Of n ≡ counted (operandCount c) → Laid c (plainShape 1 (widthOf c) n true)
+  -- a count, and the field bits of 61, 111 and 190; no such code has a row, is a phase or custom data
+  pub counts : (n : ℕ) → operandCount c ≡ some n → Laid c (plainShape 1 (widthOf c) n true)
   unfolding numbers operandCount fieldOf itemsOf widthOf
-  counts n e h =
-      let s : operandCount c ≡ some n = is-some (operandCount c) h in
-      record { meaning = sym (e ∙ ap (byCount c) s ∙ ap shown fields); sound = plain-sound 1 (widthOf c) n true (omega arith) (omega arith) narrow (omega (arith, line-under operandCounts 0 c n s)) }
+  counts n s =
+      record { meaning = sym (laid-by-count c n s ∙ ap shown fields); sound = plain-sound 1 (widthOf c) n true (omega arith) (omega arith) narrow (omega (arith, line-under operandCounts 0 c n s)) }
     where
-      is-some : (m : Option ℕ) → Of n ≡ counted m → m ≡ some n
-      is-some none h = impossible (cc)
-      is-some (some m) h = cc
-
       shown : Field → Layout
       shown f = record { kind = 1; field = f; items = replicate n o ++ tail ∷ [] }
 
@@ -89,3 +108,19 @@ module _ (c : ℕ) where
           go true b = omega arith
           go false true = omega arith
           go false false = omega arith
+
+-- a count that was told
+pub is-counted : (c n : ℕ) → n ≡ counted (operandCount c) → n < 7 → operandCount c ≡ some n
+is-counted c n e h = go (operandCount c) e
+  where
+    go : (m : Option ℕ) → n ≡ counted m → m ≡ some n
+    go none e = absurd (omega arith)
+    go (some k) e = ap some (sym e)
+
+pub is-uncounted : (c n : ℕ) → n ≡ counted (operandCount c) → 7 ≤ n → operandCount c ≡ none
+unfolding operandCount
+is-uncounted c n e h = go (operandCount c) refl e
+  where
+    go : (m : Option ℕ) → operandCount c ≡ m → n ≡ counted m → m ≡ none
+    go none q e = refl
+    go (some k) q e = absurd (omega (arith, line-under operandCounts 0 c k q))

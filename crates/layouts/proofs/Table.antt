@@ -4,16 +4,15 @@ use mathlib.Core.Path.{_≡_, refl, _∙_, ap, subst}
 use mathlib.Core.Bool.{Bool, true, false, cond}
 use mathlib.Core.List.{List, [], _∷_, map}
 use native.Mathlib.Omega.{arith}
-use lib.Dec.{ltb}
+use lib.Dec.{leb, ltb}
 use lib.ListN.{length, getD}
-use borrow.Author.Tests.{ltb-true, ltb-false, lt-ltb, le-ltb, ne-eqb}
+use borrow.Author.Tests.{leb-true, ltb-true, ltb-false, lt-ltb, le-ltb, ne-eqb}
 use Rattle.format.specs.Counts.{numbers, within, lineOf, operandCount}
 use Rattle.format.specs.Declarations.{Layout, inTable, layout}
 use Rattle.layouts.specs.declared.Declaration.{Declaration}
 use Rattle.layouts.specs.Shapes.{fieldOf, itemsOf, meant, Laid}
 use Rattle.layouts.specs.Table.{codeOf, rowOf, shapeOf, Right}
-use Rattle.layouts.proofs.Each.{at, member}
-use Rattle.layouts.proofs.Lines.{inside}
+use Rattle.format.proofs.Each.{at, below}
 use Rattle.layouts.proofs.Shapes.{checks, passed, sound}
 
 -- the table
@@ -62,17 +61,17 @@ rows =
     []
 
 -- what a row tells, and what row i ought to
-abbrev told : Declaration → ℕ × Layout × List Bool
-told x = (x .0, meant (shapeOf x), checks (shapeOf x))
+abbrev told : Declaration → ℕ × Layout × List Bool × Bool
+told x = (x .0, meant (shapeOf x), checks (shapeOf x), leb (x .7) 1)
 
-abbrev due : ℕ → ℕ × Layout × List Bool
-due i = (codeOf i, layout (codeOf i), passed)
+abbrev due : ℕ → ℕ × Layout × List Bool × Bool
+due i = (codeOf i, layout (codeOf i), passed, true)
 
 -- a table that tells what it ought to is right in each row
 right : (l : List Declaration) (z : Declaration) (i : ℕ) → map told l ≡ map due (numbers (length l) 0) → i < length l → Right i (getD l i z)
 right l z i e h =
     let p : told (getD l i z) ≡ due i = at told due l z e i h in
-    record { code = ap (λ x. x .0) p; laid = record { meaning = ap (λ x. x .1) p; sound = sound (shapeOf (getD l i z)) (ap (λ x. x .2) p) } }
+    record { code = ap (λ x. x .0) p; one = leb-true _ _ (ap (λ x. x .3) p); laid = record { meaning = ap (λ x. x .1) p; sound = sound (shapeOf (getD l i z)) (ap (λ x. x .2) p) } }
 
 -- the rule of the whole table, computed once
 pub rule : (z : Declaration) (i : ℕ) → i < 40 → Right i (getD rows i z)
@@ -119,7 +118,7 @@ unfolding again codeOf rowOf numbers
 row-code c h = go (ltb c 207) refl
   where
     go : (b : Bool) → ltb c 207 ≡ b → codeOf (rowOf c) ≡ c
-    go true k = rw (lt-ltb (rowOf c) 40 h) at (member again (λ c. c) (numbers 207 0) refl c (inside c 207 (ltb-true c 207 k)))
+    go true k = rw (lt-ltb (rowOf c) 40 h) at (below again (λ c. c) 207 refl c (ltb-true c 207 k))
     go false k = let m = ltb-false c 207 k in absurd (omega (arith, row-over c (omega arith) (λ e. omega arith)))
 
 -- so the row tells the code's layout

@@ -1,20 +1,13 @@
 -- What a count and a shape of the code mean, in the words of document 01's definitions.
-use Rattle.format.specs.Basis.{ℕ, _+_, _-_, _<_, _≤_, _≡_, List, [], _∷_, _++_, Bool, cond, Option, none, some, getD, replicate, eqb}
+use Rattle.format.specs.Basis.{ℕ, _+_, _-_, _<_, _≤_, _≡_, List, [], _∷_, _++_, Bool, cond, Option, none, some, replicate, eqb}
 use mathlib.Core.Logic.{_⊎_}
-use Rattle.format.specs.Counts.{operandCounts}
 use Rattle.format.specs.Declarations.{Item, o, d, small, s, tail, list, Field, no, from, bounded, Layout, layout}
-use Rattle.layouts.specs.declared.Count.{Count}
-use Rattle.layouts.specs.declared.Count.the-variants.{Of, Uncounted}
 use Rattle.layouts.specs.declared.Shape.{Shape}
 
--- a code's operand count, if it has one
-abbrev pub counted : Option ℕ → Count
-counted none = Uncounted
-counted (some n) = Of n
-
--- the codes of n operands
-abbrev pub line : ℕ → List ℕ
-line n = getD operandCounts n []
+-- a code's operand count; 7, which none has, if it has none
+abbrev pub counted : Option ℕ → ℕ
+counted none = 7
+counted (some n) = n
 
 -- no width: no field bits; no bounded bits: width bits from the first on; else width bits from bit 11 on, the lowest bounded
 unfoldable pub fieldOf : Shape → Field

@@ -1,5 +1,5 @@
 -- The order of the table of declarations, and the shape that a row tells.
-use Rattle.format.specs.Basis.{ℕ, _+_, _-_, _≡_, Bool, false, cond, _||_, eqb, ltb}
+use Rattle.format.specs.Basis.{ℕ, _+_, _-_, _≤_, _≡_, Bool, false, cond, _||_, eqb, ltb}
 use Rattle.layouts.specs.declared.Shape.{Shape}
 use Rattle.layouts.specs.declared.Declaration.{Declaration}
 use Rattle.layouts.specs.Shapes.{Laid}
@@ -18,6 +18,7 @@ shapeOf x = record { kind = 4; first = x .1; width = x .2; bounded = x .3; lo = 
 -- row i of the table is its code's
 pub record Right (i : ℕ) (x : Declaration) : Type 0 where
   pub code : x .0 ≡ codeOf i
+  pub one : x .7 ≤ 1
   pub laid : Laid (codeOf i) (shapeOf x)
 
 -- a shape of operands and perhaps a tail, with field bits from bit 11 on

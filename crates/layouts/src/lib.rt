@@ -1,16 +1,11 @@
 // The layout of every code: operand counts, the table of declarations, field bits.
 ghost use mathlib.Core.Path.{_≡_};
-ghost use Prim.Native.Nat.{_<_, _≤_};
-ghost use Rattle.format.specs.Counts.{within, operandCount};
+ghost use Prim.Native.Nat.{_%_, _<_, _≤_};
+ghost use mathlib.Core.Option.{none, some};
+ghost use Rattle.format.specs.Counts.{operandCount};
 ghost use Rattle.format.specs.Declarations.{fieldIn, inBounds};
-ghost use Rattle.layouts.specs.Shapes.{counted, line, fieldOf, Sound, Laid};
+ghost use Rattle.layouts.specs.Shapes.{counted, fieldOf, Sound, Laid};
 ghost use Rattle.layouts.specs.Table.{rowOf, Right, shapeOf, plainShape, widthOf};
-
-// How many operands a code has, if that is told by its code.
-pub enum Count {
-    Of(u32),
-    Uncounted,
-}
 
 // What stands beside a code and after its token. Field bits: width bits from bit first on; where bounded is above 0, that many bits from
 // bit 11 on hold lo to hi. Then dwords, operands, small dwords, dwords, dwords of model 5.1 alone, a list counted by list bits, and a tail.
@@ -90,163 +85,56 @@ const DECLARATIONS: [Declaration; 40] = [
     Declaration(206, 11, 0, 0, 0, 0, 1, 0, 0, 0, 0, 0),
 ];
 
-// Whether a code has no operands.
-fn has_none(code: u32) -> bool
-    ensures { λ r. ⌜ r ≡ within code (line 0) ⌝ }
-{
-    (code == 2)
-        | (code == 7)
-        | (9 <= code) & (code < 11)
-        | (18 <= code) & (code < 24)
-        | (code == 48)
-        | (code == 58)
-        | (code == 62)
-        | (code == 190)
-}
-
-// Whether a code has one operand.
-fn has_one(code: u32) -> bool
-    ensures { λ r. ⌜ r ≡ within code (line 1) ⌝ }
-{
-    (3 <= code) & (code < 5)
-        | (code == 6)
-        | (code == 8)
-        | (code == 13)
-        | (code == 31)
-        | (code == 44)
-        | (code == 63)
-        | (code == 76)
-        | (117 <= code) & (code < 120)
-        | (code == 143)
-}
-
-// Whether a code has two operands.
-fn has_two(code: u32) -> bool
-    ensures { λ r. ⌜ r ≡ within code (line 2) ⌝ }
-{
-    (code == 5)
-        | (11 <= code) & (code < 13)
-        | (25 <= code) & (code < 29)
-        | (code == 40)
-        | (code == 43)
-        | (code == 47)
-        | (code == 54)
-        | (code == 59)
-        | (64 <= code) & (code < 69)
-        | (code == 75)
-        | (code == 86)
-        | (code == 111)
-        | (121 <= code) & (code < 126)
-        | (129 <= code) & (code < 132)
-        | (134 <= code) & (code < 138)
-        | (code == 141)
-        | (178 <= code) & (code < 180)
-        | (code == 199)
-        | (201 <= code) & (code < 203)
-        | (code == 205)
-        | (code == 212)
-        | (214 <= code) & (code < 218)
-}
-
-// Whether a code has three operands.
-fn has_three(code: u32) -> bool
-    ensures { λ r. ⌜ r ≡ within code (line 3) ⌝ }
-{
-    (0 <= code) & (code < 2)
-        | (14 <= code) & (code < 18)
-        | (code == 24)
-        | (29 <= code) & (code < 31)
-        | (32 <= code) & (code < 35)
-        | (36 <= code) & (code < 38)
-        | (code == 39)
-        | (41 <= code) & (code < 43)
-        | (code == 45)
-        | (code == 49)
-        | (51 <= code) & (code < 53)
-        | (56 <= code) & (code < 58)
-        | (60 <= code) & (code < 62)
-        | (code == 77)
-        | (79 <= code) & (code < 81)
-        | (83 <= code) & (code < 86)
-        | (code == 87)
-        | (code == 110)
-        | (163 <= code) & (code < 167)
-        | (169 <= code) & (code < 172)
-        | (173 <= code) & (code < 178)
-        | (191 <= code) & (code < 199)
-        | (203 <= code) & (code < 205)
-        | (code == 210)
-}
-
-// Whether a code has four operands.
-fn has_four(code: u32) -> bool
-    ensures { λ r. ⌜ r ≡ within code (line 4) ⌝ }
-{
-    (code == 35)
-        | (code == 38)
-        | (code == 46)
-        | (code == 50)
-        | (code == 55)
-        | (code == 69)
-        | (code == 78)
-        | (81 <= code) & (code < 83)
-        | (108 <= code) & (code < 110)
-        | (132 <= code) & (code < 134)
-        | (138 <= code) & (code < 140)
-        | (167 <= code) & (code < 169)
-        | (code == 172)
-        | (180 <= code) & (code < 185)
-        | (186 <= code) & (code < 190)
-        | (code == 200)
-        | (code == 211)
-        | (code == 213)
-}
-
-// Whether a code has five operands.
-fn has_five(code: u32) -> bool
-    ensures { λ r. ⌜ r ≡ within code (line 5) ⌝ }
-{
-    (70 <= code) & (code < 73)
-        | (code == 74)
-        | (126 <= code) & (code < 128)
-        | (code == 140)
-        | (code == 142)
-        | (code == 185)
-}
-
-// Whether a code has six operands.
-fn has_six(code: u32) -> bool
-    ensures { λ r. ⌜ r ≡ within code (line 6) ⌝ }
-{
-    (code == 73) | (code == 128)
-}
-
-// A code's operand count, by comparisons.
-pub fn operand_count(code: u32) -> Count
+// The operand count of an even code.
+fn even_count(code: u32) -> u32
+    requires { ⌜ code % 2 ≡ 0 ⌝ }
     ensures { λ r. ⌜ r ≡ counted (operandCount code) ⌝ }
 {
-    if has_none(code) {
-        return Count::Of(0);
+    match code {
+        2 | 10 | 18 | 20 | 22 | 48 | 58 | 62 | 190 => 0,
+        4 | 6 | 8 | 44 | 76 | 118 => 1,
+        12 | 26 | 28 | 40 | 54 | 64 | 66 | 68 | 86 | 122 => 2,
+        124 | 130 | 134 | 136 | 178 | 202 | 212 | 214 | 216 => 2,
+        0 | 14 | 16 | 24 | 30 | 32 | 34 | 36 | 42 | 52 | 56 | 60 | 80 => 3,
+        84 | 110 | 164 | 166 | 170 | 174 | 176 | 192 | 194 | 196 | 198 | 204 | 210 => 3,
+        38 | 46 | 50 | 78 | 82 | 108 | 132 | 138 => 4,
+        168 | 172 | 180 | 182 | 184 | 186 | 188 | 200 => 4,
+        70 | 72 | 74 | 126 | 140 | 142 => 5,
+        128 => 6,
+        _ => 7,
     }
-    if has_one(code) {
-        return Count::Of(1);
+}
+
+// The operand count of an odd code.
+fn odd_count(code: u32) -> u32
+    requires { ⌜ code % 2 ≡ 1 ⌝ }
+    ensures { λ r. ⌜ r ≡ counted (operandCount code) ⌝ }
+{
+    match code {
+        7 | 9 | 19 | 21 | 23 => 0,
+        3 | 13 | 31 | 63 | 117 | 119 | 143 => 1,
+        5 | 11 | 25 | 27 | 43 | 47 | 59 | 65 | 67 | 75 | 111 | 121 | 123 => 2,
+        125 | 129 | 131 | 135 | 137 | 141 | 179 | 199 | 201 | 205 | 215 | 217 => 2,
+        1 | 15 | 17 | 29 | 33 | 37 | 39 | 41 | 45 | 49 => 3,
+        51 | 57 | 61 | 77 | 79 | 83 | 85 | 87 | 163 | 165 => 3,
+        169 | 171 | 173 | 175 | 177 | 191 | 193 | 195 | 197 | 203 => 3,
+        35 | 55 | 69 | 81 | 109 | 133 | 139 => 4,
+        167 | 181 | 183 | 187 | 189 | 211 | 213 => 4,
+        71 | 127 | 185 => 5,
+        73 => 6,
+        _ => 7,
     }
-    if has_two(code) {
-        return Count::Of(2);
+}
+
+// A code's operand count, by comparisons; 7: it has none. Even and odd codes stand apart: neighbours would be compared as a range, and
+// one range after the other, where single codes become one jump.
+pub fn operand_count(code: u32) -> u32
+    ensures { λ r. ⌜ r ≡ counted (operandCount code) ⌝ }
+{
+    if code % 2 == 0 {
+        return even_count(code);
     }
-    if has_three(code) {
-        return Count::Of(3);
-    }
-    if has_four(code) {
-        return Count::Of(4);
-    }
-    if has_five(code) {
-        return Count::Of(5);
-    }
-    if has_six(code) {
-        return Count::Of(6);
-    }
-    Count::Uncounted
+    odd_count(code)
 }
 
 // The row of a declaration's code: 88 to 106, 120, 144 to 162, 206. 40: the code declares nothing.
@@ -338,33 +226,30 @@ fn counted_width(code: u32) -> u32
     0
 }
 
-// The layout of a code that declares nothing: custom data, a phase, counted or opaque.
-fn undeclared(code: u32) -> Shape
-    requires { ⌜ 40 ≤ rowOf code ⌝ }
+// The layout of a code of n operands.
+pub fn counted_layout(code: u32, n: u32) -> Shape
+    requires { ⌜ operandCount code ≡ some n ⌝ }
     ensures { λ r. ⌜ Laid code r ⌝ }
 {
+    plain(1, counted_width(code), n, true)
+}
+
+// The layout of a code without a count: a declaration, a phase, custom data or an opaque one. It has one operand at most.
+pub fn uncounted_layout(code: u32) -> Shape
+    requires { ⌜ operandCount code ≡ none ⌝ }
+    ensures { λ r. ⌜ Laid code r × (r .operands ≤ 1) ⌝ }
+{
+    let row = row_of(code);
+    if row < 40 {
+        return declared(row_at(row));
+    }
     if code == 53 {
         return plain(5, 5, 0, true);
     }
     if (113 <= code) & (code < 117) {
         return plain(3, 0, 0, false);
     }
-    let Count::Of(n) = operand_count(code) else {
-        return plain(2, 0, 0, true);
-    };
-    plain(1, counted_width(code), n, true)
-}
-
-// The layout of any code.
-pub fn layout_of(code: u32) -> Shape
-    ensures { λ r. ⌜ Laid code r ⌝ }
-{
-    let row = row_of(code);
-    if row < 40 {
-        declared(row_at(row))
-    } else {
-        undeclared(code)
-    }
+    plain(2, 0, 0, true)
 }
 
 // A token's field: the shape's bits, divided by 2,048.

@@ -1,31 +1,49 @@
 -- Laws of an operand's front, and of an operand of immediates.
-use Prim.Native.Nat.{ℕ, zero, suc, _+_, _-_, _<_, _≤_}
+use Prim.Native.Nat.{ℕ, zero, suc, _+_, _-_, _/_, _%_, _^_, _<_, _≤_}
 use mathlib.Core.Path.{_≡_, refl, sym, _∙_, ap}
 use mathlib.Core.Bool.{Bool, true, false, cond, _&&_}
 use mathlib.Core.List.{List, [], _∷_, _++_, append-nil}
+use native.Mathlib.Nat.{add-zero}
 use native.Mathlib.Numerals.{add-one, sub-one}
 use native.Mathlib.Omega.{arith}
 use lib.ListN.{length, getD, take, drop, length-append}
-use lib.Seq.{slice, length-slice}
-use lib.Dec.{ltb, eqb}
+use lib.Seq.{slice, slice-empty, length-slice}
+use lib.Dec.{ltb}
 use borrow.Author.Tests.{ltb-true, ltb-false, eq-eqb, ne-eqb}
-use Rattle.format.specs.Dwords.{follows, Got, malformed, got, Reader, then, give, dword, some, chain}
-use Rattle.format.specs.Operands.{Tree, none, node, immediate, immediates, dimension, readImmediates, readIndices, operand, dwords, exact, exactDword, exactExtension}
+use Rattle.format.specs.Dwords.{follows, Got, malformed, got, Reader, then, give, dword, chain}
+use Rattle.format.specs.Operands.{Tree, none, immediate, immediates, dimension, readImmediates, readIndices, operand, dwords, exact, exactDword, exactExtension}
 use Rattle.format.specs.Rows.{treeRows, treeWords}
 use Rattle.format.proofs.Dwords.{impossible}
 use Rattle.tokens.specs.Chains.{ends}
-use Rattle.tokens.specs.declared.Skip.{Skip}
 use Rattle.tokens.specs.declared.Skip.the-variants.{To, Off}
 use Rattle.tokens.proofs.Places.{dword-at, dword-end, some-whole, some-length, some-short, Passed, passed, ran-off}
-use Rattle.operand.specs.Measures.{measured, front, fronted, Stands}
+use Rattle.operand.specs.Measures.{measured, front, fronted, Stands, Flat}
 use Rattle.operand.specs.declared.Measured.{Measured}
 use Rattle.operand.specs.declared.Measured.the-variants.{Read, Malformed}
-use Rattle.operand.specs.declared.Front.{Front}
 use Rattle.operand.specs.declared.Front.the-variants.{At, Short}
 
 -- what follows an operand's dword t and its extensions e
 abbrev pub body : ℕ → ℕ → List ℕ → Reader Tree
 body left t e = cond (immediate t) (readImmediates t e) (readIndices (operand (left - 1)) t e)
+
+-- where no chain follows, none is passed
+pub no-chain : (ds : List ℕ) (at : ℕ) → at ≤ length ds → Passed false ds at at
+unfolding chain
+no-chain ds at h = passed false ds at at h (go (drop at ds))
+  where
+    go : (l : List ℕ) → To at ≡ ends at (chain false l)
+    go [] = ap To (sym (add-zero at))
+    go (x ∷ l) = ap To (sym (add-zero at))
+
+pub and-true : (a : Bool) → (a && true) ≡ a
+and-true true = refl
+and-true false = refl
+
+-- the three indices of an operand that has no operand in them are exact
+pub and-trues : (p q : Bool) → (p && q) ≡ (p && q && true && true && true)
+and-trues true true = refl
+and-trues true false = refl
+and-trues false q = refl
 
 -- the two readers, a step in
 module _ (left : ℕ) (ds : List ℕ) (at : ℕ) where
@@ -153,13 +171,29 @@ module _ {ds : List ℕ} {at t b : ℕ} {x : Bool} (s : Stands ds at t b x) (d :
         let li : length i ≡ m = some-length m ds b (omega (arith, s .within)) in
         let w : m ≡ length (i ++ [] ++ [] ++ []) = sym (simp append-nil li) in
         let n : b - at + m ≡ length (t ∷ e ++ i ++ [] ++ [] ++ []) = simp length-append (omega (arith, s .from)) in
-        let g : (exactDword t && exactExtension e) ≡ (exactDword t && exactExtension e && true && true && true) = same (exactDword t) (exactExtension e) in
+        let g : (exactDword t && exactExtension e) ≡ (exactDword t && exactExtension e && true && true && true) = and-trues (exactDword t) (exactExtension e) in
         (λ j. Read 1 (w j) (n j) ((s .good ∙ g) j)) ∙ sym (rw (← ed, eq-eqb d 0 hd, ← em, some-whole m ds b (omega (arith, s .within))))
-      where
-        same : (p q : Bool) → (p && q) ≡ (p && q && true && true && true)
-        same true true = refl
-        same true false = refl
-        same false q = refl
 
-pub leaf-is : {left : ℕ} {ds : List ℕ} {at t b : ℕ} {x : Bool} → Opened left ds at t b x → (m : Bool) → m ≡ immediate t → m ≡ true → measured (readImmediates t (slice (at + 1) b ds) (drop b ds)) ≡ measured (operand left (drop at ds))
-leaf-is o m em h = sym (ap measured (o .is) ∙ rw (sym em ∙ h))
+-- an operand with the dword t is measured by what stands behind its front
+module _ {left : ℕ} {ds : List ℕ} {at t b : ℕ} {x : Bool} (o : Opened left ds at t b x) (m : Bool) (em : m ≡ immediate t) {a : Measured} where
+  pub leaf-is : m ≡ true → a ≡ measured (readImmediates t (slice (at + 1) b ds) (drop b ds)) → a ≡ measured (operand left (drop at ds))
+  leaf-is h e = e ∙ sym (ap measured (o .is) ∙ rw (sym em ∙ h))
+
+  pub tree-is : m ≡ false → a ≡ measured (readIndices (operand (left - 1)) t (slice (at + 1) b ds) (drop b ds)) → a ≡ measured (operand left (drop at ds))
+  tree-is h e = e ∙ sym (ap measured (o .is) ∙ rw (sym em ∙ h))
+
+-- an operand's dword below bit 22 has neither representations nor extensions
+pub low-flat : (t : ℕ) → t < 2 ^ 22 → Flat t
+low-flat t h = omega arith
+
+pub low-ends : (t : ℕ) → t < 2 ^ 22 → follows t ≡ false
+unfolding follows
+low-ends t h = ne-eqb (t / 2 ^ 31 % 2) 1 (λ z. omega arith)
+
+module _ (left : ℕ) (ds : List ℕ) (at : ℕ) where
+  pub low-opened : (left ≡ 0 → ⊥) → at < length ds → (t : ℕ) → t ≡ getD ds at 0 → t < 2 ^ 22 → (x : Bool) → x ≡ exactDword t → Opened left ds at t (at + 1) x
+  unfolding exactExtension
+  low-opened h l t et q x ex =
+      let w = no-chain ds (at + 1) (omega arith) in
+      opened left ds at t (at + 1) x
+      (front-read left ds at h l t et false (sym (low-ends t q)) (at + 1) w x true x ex (sym (ap exactExtension (slice-empty (at + 1) ds))) (sym (and-true x)))

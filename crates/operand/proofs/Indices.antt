@@ -1,23 +1,22 @@
 -- Laws of an operand's indices.
 use Prim.Native.Nat.{ℕ, zero, suc, _+_, _-_, _<_, _≤_}
 use mathlib.Core.Path.{_≡_, refl, sym, _∙_, ap}
-use mathlib.Core.Bool.{Bool, true, false, not, cond, _&&_}
+use mathlib.Core.Bool.{Bool, true, false, not, _&&_}
 use mathlib.Core.List.{List, [], _∷_, _++_, append-nil, append-assoc}
-use native.Mathlib.Numerals.{add-one}
 use native.Mathlib.Omega.{arith}
 use lib.ListN.{length, take, drop, length-append}
 use lib.Seq.{slice, length-slice}
 use borrow.Author.Tests.{le-ltb, not-true, not-false}
 use Rattle.format.specs.Dwords.{Got, malformed, got, Reader, then, _>>=_, give, some}
-use Rattle.format.specs.Operands.{Tree, none, plain, node, immediate, dimension, repr, own, nests, known, readIndex, readIndices, operand, dwords, exact, exactDword, exactExtension, partsDwords, exactParts}
+use Rattle.format.specs.Operands.{Tree, none, plain, node, dimension, repr, own, nests, known, readIndex, readIndices, operand, dwords, exact, exactDword, exactExtension, partsDwords, exactParts}
 use Rattle.format.specs.Rows.{treeRows, treeWords, partsRows, partsWords}
-use Rattle.format.proofs.Dwords.{All, unmet, met, all-then, all-if, Makes, some-length, impossible}
+use Rattle.format.proofs.Dwords.{unmet, met, all-then, all-if, Makes, some-length}
 use Rattle.format.proofs.Operands.{makes-operand}
 use Rattle.tokens.proofs.Places as places
-use Rattle.operand.specs.Measures.{measured}
+use Rattle.operand.specs.Measures.{measured, Stands}
 use Rattle.operand.specs.declared.Measured.{Measured}
 use Rattle.operand.specs.declared.Measured.the-variants.{Read, Malformed}
-use Rattle.operand.proofs.Fronts.{body, Opened}
+use Rattle.operand.proofs.Fronts.{and-true}
 use Rattle.operand.proofs.Seen.{Seen, seen, lost}
 
 pub makes-index : (k r : ℕ) (ds : List ℕ) → Makes dwords ds (readIndex (operand k) r ds)
@@ -86,10 +85,6 @@ ands true true false c = refl
 ands true false b c = refl
 ands false a b c = refl
 
-and-true : (a : Bool) → (a && true) ≡ a
-and-true true = refl
-and-true false = refl
-
 -- one more
 more : (r w d : ℕ) (x : Bool) (t : Tree) (g : Got (List Tree)) → added r w d x (then g (λ l. give (t ∷ l))) ≡ added (r + treeRows t) (w + length (treeWords t)) (d + length (dwords t)) (x && exact t) g
 unfolding partsRows partsWords partsDwords exactParts
@@ -147,32 +142,28 @@ end p t (suc j) ds h r w d x =
     ∙ sym (rw (nothing p (2 - j) t ds (omega arith)))
 
 -- what holds at the loop's head: with what is counted, the indices from here on give the whole answer
-pub record Going (left : ℕ) (ds : List ℕ) (at t dim : ℕ) (r w b : ℕ) (x : Bool) (i : ℕ) : Type 0 where
-  pub deep : 0 < left
+pub record Going (m : Measured) (left : ℕ) (ds : List ℕ) (at t dim : ℕ) (r w b : ℕ) (x : Bool) (i : ℕ) : Type 0 where
   pub dims : dim ≡ dimension t
   pub index : i ≤ 3
   pub before : at < b
   pub within : b ≤ length ds
   pub fewer : r + w ≤ b - at
-  pub same : measured (operand left (drop at ds)) ≡ added r w (b - at) x (rest (operand (left - 1)) t (3 - i) (drop b ds))
+  pub same : m ≡ added r w (b - at) x (rest (operand (left - 1)) t (3 - i) (drop b ds))
 
-pub goes : {left : ℕ} {ds : List ℕ} {at t b : ℕ} {x : Bool} → Opened left ds at t b x → (m : Bool) → m ≡ immediate t → m ≡ false → (d : ℕ) → d ≡ dimension t → Going left ds at t d 1 0 b x 0
-goes {left} {ds} {at} {t} {b} {x} o m em e d ed =
-    let le : length (slice (at + 1) b ds) ≡ b - (at + 1) = length-slice (at + 1) b ds (o .stands .within) in
-    let q : 1 + length (slice (at + 1) b ds) ≡ b - at = omega (arith, o .stands .from) in
+pub goes : (left : ℕ) {ds : List ℕ} {at t b : ℕ} {x : Bool} → Stands ds at t b x → (d : ℕ) → d ≡ dimension t → Going (measured (readIndices (operand (left - 1)) t (slice (at + 1) b ds) (drop b ds))) left ds at t d 1 0 b x 0
+goes left {ds} {at} {t} {b} {x} s d ed =
+    let le : length (slice (at + 1) b ds) ≡ b - (at + 1) = length-slice (at + 1) b ds (s .within) in
+    let q : 1 + length (slice (at + 1) b ds) ≡ b - at = omega (arith, s .from) in
     record {
-      deep = o .deep;
       dims = ed;
       index = omega arith;
-      before = o .stands .from;
-      within = o .stands .within;
-      fewer = omega (arith, o .stands .from);
-      same =
-          ap measured (o .is) ∙ rw (sym em ∙ e) (three (operand (left - 1)) t (slice (at + 1) b ds) (drop b ds))
-          ∙ (λ i. added 1 0 (q i) (sym (o .stands .good) i) (rest (operand (left - 1)) t 3 (drop b ds)));
+      before = s .from;
+      within = s .within;
+      fewer = omega (arith, s .from);
+      same = three (operand (left - 1)) t (slice (at + 1) b ds) (drop b ds) ∙ (λ i. added 1 0 (q i) (sym (s .good) i) (rest (operand (left - 1)) t 3 (drop b ds)));
     }
 
-module _ {left : ℕ} {ds : List ℕ} {at t dim r w b : ℕ} {x : Bool} {i : ℕ} (g : Going left ds at t dim r w b x i) where
+module _ {m : Measured} {left : ℕ} {ds : List ℕ} {at t dim r w b : ℕ} {x : Bool} {i : ℕ} (g : Going m left ds at t dim r w b x i) where
   -- the index to read next
   step : i < dim → rest (operand (left - 1)) t (3 - i) (drop b ds) ≡ then (readIndex (operand (left - 1)) (repr i t) (drop b ds)) (λ y s. then (rest (operand (left - 1)) t (2 - i) s) (λ l. give (y ∷ l)))
   unfolding rest
@@ -181,7 +172,7 @@ module _ {left : ℕ} {ds : List ℕ} {at t dim r w b : ℕ} {x : Bool} {i : ℕ
       let f : 2 - (2 - i) ≡ i = omega (arith, g .dims) in
       rw (e, f)
 
-  pub next-lost : i < dim → (k : ℕ) → k ≡ repr i t → Malformed ≡ measured (readIndex (operand (left - 1)) k (drop b ds)) → Malformed ≡ measured (operand left (drop at ds))
+  pub next-lost : i < dim → (k : ℕ) → k ≡ repr i t → Malformed ≡ measured (readIndex (operand (left - 1)) k (drop b ds)) → Malformed ≡ m
   next-lost h k ek e =
       let q : readIndex (operand (left - 1)) (repr i t) (drop b ds) ≡ malformed = rw (← ek) (lost (readIndex (operand (left - 1)) k (drop b ds)) e) in
       let z : rest (operand (left - 1)) t (3 - i) (drop b ds) ≡ malformed = step h ∙ rw q in
@@ -191,7 +182,7 @@ module _ {left : ℕ} {ds : List ℕ} {at t dim r w b : ℕ} {x : Bool} {i : ℕ
   index-seen k r′ w′ d′ x′ e = seen (readIndex (operand (left - 1)) k (drop b ds)) ds b (makes-index (left - 1) k (drop b ds)) (g .within) r′ w′ d′ x′ e
 
   pub goes-on : i < dim → (k : ℕ) → k ≡ repr i t → (r′ w′ d′ : ℕ) (x′ : Bool) → Read r′ w′ d′ x′ ≡ measured (readIndex (operand (left - 1)) k (drop b ds)) → (y : Bool) → y ≡ (x && x′)
-      → Going left ds at t dim (r + r′) (w + w′) (b + d′) y (i + 1)
+      → Going m left ds at t dim (r + r′) (w + w′) (b + d′) y (i + 1)
   goes-on h k ek r′ w′ d′ x′ e y ey =
       let s = index-seen k r′ w′ d′ x′ e in
       let q : readIndex (operand (left - 1)) (repr i t) (drop b ds) ≡ got (s .tree) (drop (b + d′) ds) = rw (← ek) (s .is) in
@@ -202,7 +193,6 @@ module _ {left : ℕ} {ds : List ℕ} {at t dim r w b : ℕ} {x : Bool} {i : ℕ
       let ei : 2 - i ≡ 3 - (i + 1) = omega arith in
       let z : rest (operand (left - 1)) t (3 - i) (drop b ds) ≡ then (rest (operand (left - 1)) t (2 - i) (drop (b + d′) ds)) (λ l. give (s .tree ∷ l)) = step h ∙ rw q in
       record {
-        deep = g .deep;
         dims = g .dims;
         index = omega (arith, g .dims);
         before = omega (arith, g .before);
@@ -214,5 +204,5 @@ module _ {left : ℕ} {ds : List ℕ} {at t dim r w b : ℕ} {x : Bool} {i : ℕ
             ∙ (λ z. added (er z) (ew z) (ed z) (ex z) (rest (operand (left - 1)) t (ei z) (drop (b + d′) ds)));
       }
 
-  pub ended : dim ≤ i → Read r w (b - at) x ≡ measured (operand left (drop at ds))
+  pub ended : dim ≤ i → Read r w (b - at) x ≡ m
   ended h = end (operand (left - 1)) t (3 - i) (drop b ds) (omega (arith, g .dims, g .index)) r w (b - at) x ∙ sym (g .same)

@@ -1,3 +1,4 @@
 pub mod Fronts
+pub mod FlatTrees
 pub mod Seen
 pub mod Indices

@@ -1,19 +1,18 @@
 -- What an answer of measuring tells of the reading.
-use Prim.Native.Nat.{ℕ, _+_, _<_, _≤_}
-use mathlib.Core.Path.{_≡_, refl, sym, _∙_, ap}
+use Prim.Native.Nat.{ℕ, _+_, _≤_}
+use mathlib.Core.Path.{_≡_, refl, _∙_, ap}
 use mathlib.Core.Bool.{Bool}
-use mathlib.Core.List.{List, _++_}
+use mathlib.Core.List.{List}
 use native.Mathlib.Omega.{arith}
 use lib.ListN.{length, drop}
 use Rattle.format.specs.Dwords.{Got, malformed, got}
 use Rattle.format.specs.Operands.{Tree, operand, dwords, exact}
 use Rattle.format.specs.Rows.{treeRows, treeWords}
-use Rattle.format.proofs.Dwords.{All, unmet, met, Makes, impossible}
+use Rattle.format.proofs.Dwords.{met, Makes, impossible}
 use Rattle.format.proofs.Operands.{makes-operand}
 use Rattle.format.proofs.Rows.{tree-fits}
 use Rattle.tokens.proofs.Places.{left-at, read-within}
 use Rattle.operand.specs.Measures.{measured}
-use Rattle.operand.specs.declared.Measured.{Measured}
 use Rattle.operand.specs.declared.Measured.the-variants.{Read, Malformed}
 
 -- at a place a tree was read that needs r rows and w words and takes d dwords

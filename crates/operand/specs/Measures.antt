@@ -5,8 +5,8 @@ use mathlib.Core.Bool.{Bool, _&&_}
 use mathlib.Core.List.{List}
 use lib.ListN.{length}
 use lib.Seq.{slice}
-use Rattle.format.specs.Dwords.{follows, Got, malformed, got, Reader, _>>=_, give, fail, dword, chain}
-use Rattle.format.specs.Operands.{Tree, dwords, exact, exactDword, exactExtension}
+use Rattle.format.specs.Dwords.{bits, follows, Got, malformed, got, Reader, _>>=_, give, fail, dword, chain}
+use Rattle.format.specs.Operands.{Tree, readIndices, dwords, exact, exactDword, exactExtension}
 use Rattle.format.specs.Rows.{treeRows, treeWords}
 use Rattle.operand.specs.declared.Measured.{Measured}
 use Rattle.operand.specs.declared.Measured.the-variants.{Read, Malformed}
@@ -36,3 +36,11 @@ pub record Stands (ds : List ℕ) (at t b : ℕ) (x : Bool) : Type 0 where
   pub from : at < b
   pub within : b ≤ length ds
   pub good : x ≡ (exactDword t && exactExtension (slice (at + 1) b ds))
+
+-- the bits of the representations are zero: each index is one dword
+abbrev pub Flat : ℕ → Type 0
+Flat t = bits 22 30 t ≡ 0
+
+-- the answer of measuring its indices, whatever reads the operands in them
+abbrev pub AnyDepth : Measured → ℕ → List ℕ → List ℕ → Type 0
+AnyDepth a t e ds = (p : Reader Tree) → a ≡ measured (readIndices p t e ds)

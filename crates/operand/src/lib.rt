@@ -78,6 +78,23 @@ fn leaf(part: &[u8], at: usize, token: u32, body: usize, exact: bool) -> Measure
     }
 }
 
+// Measures an operand whose indices are one dword each, whose front is read.
+fn flat(part: &[u8], at: usize, token: u32, body: usize, exact: bool) -> Measured
+    requires { ⌜ m.Stands (dwordsOf (now part)) at token body exact × m.Flat token ⌝ }
+    ensures { λ r. ⌜ m.AnyDepth r token (slice (at + 1) body (dwordsOf (now (part .entry)))) (drop body (dwordsOf (now (part .entry)))) ⌝ }
+{
+    let indices = tokens::dimension(token) as usize;
+    if tokens::dwords(part) - body < indices {
+        return Measured::Malformed;
+    }
+    Measured::Read {
+        rows: 1,
+        words: indices,
+        dwords: body - at + indices,
+        exact,
+    }
+}
+
 // Measures an index of a representation at a place.
 fn index(part: &[u8], at: usize, r: u32, left: usize) -> Measured
     requires { ⌜ (at ≤ length (dwordsOf (now part))) × (0 < left) ⌝ }
@@ -96,7 +113,7 @@ fn index(part: &[u8], at: usize, r: u32, left: usize) -> Measured
             words,
             dwords,
             exact,
-        } = measure(part, at + own, left - 1)
+        } = deep(part, at + own, left - 1)
         else {
             return Measured::Malformed;
         };
@@ -115,16 +132,11 @@ fn index(part: &[u8], at: usize, r: u32, left: usize) -> Measured
     }
 }
 
-// Measures an operand at a place, with so many depths left: 64 at depth 0.
-pub fn measure(part: &[u8], at: usize, left: usize) -> Measured
-    ensures { λ a. ⌜ a ≡ m.measured (op.operand left (drop at (dwordsOf (now (part .entry))))) ⌝ }
+// Measures an operand by its indices, one after the other; its front is read.
+fn tree(part: &[u8], at: usize, token: u32, body: usize, exact: bool, left: usize) -> Measured
+    requires { ⌜ m.Stands (dwordsOf (now part)) at token body exact × (0 < left) ⌝ }
+    ensures { λ a. ⌜ a ≡ m.measured (op.readIndices (op.operand (left - 1)) token (slice (at + 1) body (dwordsOf (now (part .entry)))) (drop body (dwordsOf (now (part .entry))))) ⌝ }
 {
-    let Front::At { token, body, exact } = front_at(part, at, left) else {
-        return Measured::Malformed;
-    };
-    if tokens::immediate(token) {
-        return leaf(part, at, token, body, exact);
-    }
     let dimension = tokens::dimension(token);
     let mut rows = 1;
     let mut words = 0;
@@ -153,4 +165,42 @@ pub fn measure(part: &[u8], at: usize, left: usize) -> Measured
         dwords: place - at,
         exact: good,
     }
+}
+
+// Measures any operand.
+pub fn deep(part: &[u8], at: usize, left: usize) -> Measured
+    ensures { λ a. ⌜ a ≡ m.measured (op.operand left (drop at (dwordsOf (now (part .entry))))) ⌝ }
+{
+    let Front::At { token, body, exact } = front_at(part, at, left) else {
+        return Measured::Malformed;
+    };
+    if tokens::immediate(token) {
+        return leaf(part, at, token, body, exact);
+    }
+    if token / 0x40_0000 % 512 == 0 {
+        return flat(part, at, token, body, exact);
+    }
+    tree(part, at, token, body, exact, left)
+}
+
+// Measures an operand at a place, with so many depths left: 64 at depth 0. Most have neither extensions nor
+// representations, and go a short way.
+pub fn measure(part: &[u8], at: usize, left: usize) -> Measured
+    ensures { λ a. ⌜ a ≡ m.measured (op.operand left (drop at (dwordsOf (now (part .entry))))) ⌝ }
+{
+    if left == 0 {
+        return Measured::Malformed;
+    }
+    if tokens::dwords(part) <= at {
+        return Measured::Malformed;
+    }
+    let token = tokens::dword(part, at);
+    if token >= 0x40_0000 {
+        return deep(part, at, left);
+    }
+    let exact = tokens::exact_dword(token);
+    if tokens::immediate(token) {
+        return leaf(part, at, token, at + 1, exact);
+    }
+    flat(part, at, token, at + 1, exact)
 }

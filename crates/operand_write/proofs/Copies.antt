@@ -1,12 +1,12 @@
 -- Laws of dwords that are copied to the front of a list.
-use Prim.Native.Nat.{ℕ, suc, _+_, _-_, _*_, _<_, _≤_}
-use mathlib.Core.Path.{_≡_, refl, sym, _∙_, ap, subst}
-use mathlib.Core.List.{List, [], _∷_, _++_, append-assoc}
+use Prim.Native.Nat.{ℕ, _+_, _<_, _≤_}
+use mathlib.Core.Path.{_≡_, _∙_}
+use mathlib.Core.List.{List, _++_}
 use native.Mathlib.Nat.{zero-add}
 use native.Mathlib.Numerals.{add-one}
 use native.Mathlib.Omega.{arith}
-use lib.ListN.{length, take, drop, getD, set, length-drop, length-set, length-append}
-use lib.Seq.{paste-suc, getD-drop, take-at, drop-at, drop-drop, length-take-le}
+use lib.ListN.{length, take, drop, getD, set, length-drop, length-set}
+use lib.Seq.{paste-suc, getD-drop}
 
 pub record Copying (ds ws₀ : List ℕ) (at n i : ℕ) (ws : List ℕ) : Type 0 where
   pub is : ws ≡ take i (drop at ds) ++ drop i ws₀

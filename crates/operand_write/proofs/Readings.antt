@@ -1,21 +1,24 @@
 -- How a reading that was accepted is taken apart.
-use Prim.Native.Nat.{ℕ, zero, suc, _+_, _-_, _<_, _≤_}
+use Prim.Native.Nat.{ℕ, zero, suc, _+_, _-_, _^_, _<_, _≤_}
 use mathlib.Core.Path.{_≡_, refl, sym, _∙_, ap}
-use mathlib.Core.Bool.{Bool, true, false, cond}
-use mathlib.Core.List.{List, [], _∷_, _++_}
+use mathlib.Core.Bool.{Bool, true, false}
+use mathlib.Core.List.{List, [], _++_}
 use native.Mathlib.Omega.{arith}
 use lib.ListN.{length, getD, take, drop}
-use lib.Seq.{slice}
+use lib.Seq.{slice, slice-empty}
 use lib.Dec.{ltb, eqb}
 use borrow.Author.Tests.{ltb-true, ltb-false, eqb-true}
 use Rattle.format.specs.Dwords.{follows, Got, malformed, got, Reader, then, give, some, chain}
-use Rattle.format.specs.Operands.{Tree, none, plain, node, immediate, immediates, dimension, repr, own, nests, known, readIndex, readImmediates, readIndices, operand, dwords}
-use Rattle.format.proofs.Dwords.{All, unmet, met, Makes, impossible}
+use Rattle.format.specs.Operands.{Tree, none, plain, node, immediates, dimension, repr, own, nests, known, readIndex, readImmediates, readIndices, operand, dwords, modifiers}
+use Rattle.format.proofs.Dwords.{met, Makes, impossible}
 use Rattle.tokens.specs.Chains.{ends}
 use Rattle.tokens.specs.declared.Skip.the-variants.{To, Off}
 use Rattle.tokens.proofs.Places.{some-whole, some-short, left-at, read-within, Passed, passed, ran-off}
-use Rattle.operand.proofs.Fronts.{body, operand-some, operand-end}
+use Rattle.operand.specs.Measures.{Flat}
+use Rattle.operand.proofs.Fronts.{body, operand-some, operand-end, no-chain, low-ends}
+use Rattle.operand.proofs.FlatTrees.{flatTree, flat-short, flat-read}
 use Rattle.operand.proofs.Indices.{makes-index}
+use Rattle.operand_write.specs.Writes.{Front}
 
 never : {A : Type 0} {t : Tree} {r : List ℕ} → malformed ≡ got t r → A
 never e = impossible (cc)
@@ -47,11 +50,29 @@ module _ (left : ℕ) (ds : List ℕ) (at : ℕ) {t : Tree} {r : List ℕ} (e : 
     pub to : (b : ℕ) → To b ≡ ends (at + 1) (chain m (drop (at + 1) ds)) → Passed m ds (at + 1) b
     to b z = passed m ds (at + 1) b (omega (arith, inside)) z
 
-    pub behind : (b : ℕ) → Passed m ds (at + 1) b → operand left (drop at ds) ≡ body left x (slice (at + 1) b ds) (drop b ds)
-    behind b w = begun ∙ rw (w .is)
+-- the front of an operand that was read: its dword t and, behind the modifiers x, its body at b
+pub record Entered (left : ℕ) (ds : List ℕ) (at t b x : ℕ) : Type 0 where
+  pub deep : 0 < left
+  pub front : Front ds at b x
+  pub is : operand left (drop at ds) ≡ body left t (slice (at + 1) b ds) (drop b ds)
+
+module _ (left : ℕ) (ds : List ℕ) (at : ℕ) {tree : Tree} {r : List ℕ} (e : operand left (drop at ds) ≡ got tree r) (t : ℕ) (et : t ≡ getD ds at 0) where
+  pub entered : (m : Bool) → m ≡ follows t → (b : ℕ) → Passed m ds (at + 1) b → (x : ℕ) → x ≡ modifiers (slice (at + 1) b ds) → Entered left ds at t b x
+  entered m em b w x ex =
+      record {
+        deep = deep left ds at e;
+        front = record { from = omega (arith, w .from); within = w .within; modified = ex };
+        is = begun left ds at e t et m em ∙ rw (w .is);
+      }
+
+  -- one with a low dword has no extensions
+  pub low-entered : t < 2 ^ 22 → Entered left ds at t (at + 1) 0
+  unfolding modifiers
+  low-entered l = entered false (sym (low-ends t l)) (at + 1) (no-chain ds (at + 1) (omega (arith, inside left ds at e))) 0 (sym (ap modifiers (slice-empty (at + 1) ds)))
 
 -- an operand of immediates
 pub record Leaf (ds : List ℕ) (t : ℕ) (e : List ℕ) (b : ℕ) (tree : Tree) : Type 0 where
+  pub flat : dimension t ≡ 0
   pub enough : b + immediates t ≤ length ds
   pub is : tree ≡ node t e (take (immediates t) (drop b ds)) none none none
 
@@ -64,11 +85,26 @@ leaf-of ds t e b tree r h q = flat (eqb (dimension t) 0) refl
     long y false z =
         let k : b + immediates t ≤ length ds = ltb-false (length ds) (b + immediates t) z in
         let p : got (node t e (take (immediates t) (drop b ds)) none none none) (drop (b + immediates t) ds) ≡ got tree r = rw (y, some-whole (immediates t) ds b k) at q in
-        record { enough = k; is = cc }
+        record { flat = eqb-true (dimension t) 0 y; enough = k; is = cc }
 
     flat : (c : Bool) → eqb (dimension t) 0 ≡ c → Leaf ds t e b tree
     flat true y = long y (ltb (length ds) (b + immediates t)) refl
     flat false y = never (rw y at q)
+
+-- an operand whose indices are one dword each
+pub record Flatly (ds : List ℕ) (t : ℕ) (e : List ℕ) (b : ℕ) (tree : Tree) : Type 0 where
+  pub enough : b + dimension t ≤ length ds
+  pub is : tree ≡ flatTree t e (take (dimension t) (drop b ds))
+
+pub flat-of : (p : Reader Tree) (ds : List ℕ) (t : ℕ) (e : List ℕ) (b : ℕ) (tree : Tree) (r : List ℕ) → Flat t → b ≤ length ds → readIndices p t e (drop b ds) ≡ got tree r → Flatly ds t e b tree
+flat-of p ds t e b tree r f h q = go (ltb (length ds - b) (dimension t)) refl
+  where
+    go : (c : Bool) → ltb (length ds - b) (dimension t) ≡ c → Flatly ds t e b tree
+    go true z = never (sym (flat-short t f p e ds b (ltb-true (length ds - b) (dimension t) z)) ∙ q)
+    go false z =
+        let k = ltb-false (length ds - b) (dimension t) z in
+        let w : got (flatTree t e (take (dimension t) (drop b ds))) (drop (b + dimension t) ds) ≡ got tree r = sym (flat-read t f p e ds b k) ∙ q in
+        record { enough = omega arith; is = cc }
 
 -- an index
 pub record Index (p : Reader Tree) (ds : List ℕ) (r b : ℕ) (tree : Tree) (rest : List ℕ) : Type 0 where

@@ -1,26 +1,27 @@
 -- Laws of what is written of an operand.
-use Prim.Native.Nat.{ℕ, zero, suc, _+_, _-_, _*_, _^_, _<_, _≤_}
+use Prim.Native.Nat.{ℕ, _+_, _-_, _*_, _^_, _<_, _≤_}
 use mathlib.Core.Path.{_≡_, refl, sym, _∙_, ap, subst}
-use mathlib.Core.Bool.{Bool, true, false, not, cond}
+use mathlib.Core.Bool.{Bool, true, false, not}
 use mathlib.Core.List.{List, [], _∷_, _++_, append-assoc, append-nil}
-use native.Mathlib.Nat.{zero-add, add-zero}
-use native.Mathlib.Numerals.{add-one}
 use native.Mathlib.Omega.{arith}
-use lib.ListN.{length, take, drop, length-append, length-drop, getD, set}
-use lib.Seq.{slice, length-slice, drop-cons, set-split, append-snoc}
+use lib.ListN.{length, take, drop, length-append, getD, set}
+use lib.Seq.{slice, length-slice, drop-cons}
+use lib.Dec.{ltb}
 use borrow.Rule.Slice.PartMut.{putMid}
-use borrow.Author.Tests.{not-true, not-false}
-use Rattle.format.specs.Dwords.{Got, malformed, got, Reader}
-use Rattle.format.specs.Operands.{Tree, none, plain, node, immediate, immediates, repr, own, nests, readIndex, readImmediates, readIndices, operand, dwords, modifiers}
-use Rattle.format.specs.Rows.{treeRows, treeWords, treeTable, operandRow}
-use Rattle.format.proofs.Rows.{table-length, operand-row-length}
-use Rattle.tokens.proofs.Places.{some-length, Passed}
-use Rattle.operand.proofs.Fronts.{body}
+use borrow.Author.Tests.{ltb-true, ltb-false, not-true, not-false}
+use Rattle.format.specs.Dwords.{Got, got}
+use Rattle.format.specs.Operands.{Tree, none, plain, node, typeOf, form, selection, immediate, immediates, dimension, reprs, repr, own, nests, readIndex, readImmediates, readIndices, operand, dwords, modifiers}
+use Rattle.format.specs.Rows.{placed, wordPlace, childRow, treeRows, treeWords, treeTable, operandRow}
+use Rattle.format.proofs.Dwords.{impossible}
+use Rattle.format.proofs.Rows.{table-length}
+use Rattle.tokens.proofs.Places.{some-length}
+use Rattle.operand.specs.Measures.{Flat}
+use Rattle.operand.proofs.FlatTrees.{flatTree, flat-words, flat-dwords, past-dim, in-dim, flat-reprs}
 use Rattle.operand.proofs.Seen.{Seen}
-use Rattle.operand_write.specs.Writes.{rowFor, Fits, Front, Room, Put, Wrote, Over, OwnRoom, Owned, Ready, Next, WroteNext}
+use Rattle.operand_write.specs.Writes.{rowFor, loneRow, leafRow, flatRow, Fits, Front, Lone, Stored, Room, Put, Wrote, Over, OwnRoom, Owned, Ready, Next, WroteNext}
 use Rattle.operand_write.specs.declared.Sums.{Sums}
-use Rattle.operand_write.proofs.Lists.{lent-length, back, over-none, over-more, over-front, row-before, over-length}
-use Rattle.operand_write.proofs.Readings.{Leaf, leaf-of, Index, index-of, Node, node-of}
+use Rattle.operand_write.proofs.Lists.{lent-length, back, over-none, over-more, over-front, row-before}
+use Rattle.operand_write.proofs.Readings.{Entered, leaf-of, flat-of, Index, index-of, Node, node-of}
 
 -- one reading in place of another that is the same
 pub room-at : {g h : Got Tree} {ops ws row word : ℕ} → g ≡ h → Room g ops ws row word → Room h ops ws row word
@@ -43,17 +44,6 @@ room-of {ds = ds} {at = at} {d = d} s h₀ h₁ h₂ h₃ h₄ =
 pub wrote-at : {g h : Got Tree} {row word : ℕ} {ops ws ops′ ws′ : List ℕ} {a : Sums} → g ≡ h → Wrote h row word ops ws a ops′ ws′ → Wrote g row word ops ws a ops′ ws′
 wrote-at e w t r q = w t r (sym e ∙ q)
 
--- what stands behind an operand's front
-module _ (left t : ℕ) (e l : List ℕ) (m : Bool) (em : m ≡ immediate t) where
-  pub as-leaf : m ≡ true → body left t e l ≡ readImmediates t e l
-  as-leaf h = rw (sym em ∙ h)
-
-  pub as-node : m ≡ false → body left t e l ≡ readIndices (operand (left - 1)) t e l
-  as-node h = rw (sym em ∙ h)
-
-pub front-of : {m : Bool} {ds : List ℕ} {at b : ℕ} (x : ℕ) → Passed m ds (at + 1) b → x ≡ modifiers (slice (at + 1) b ds) → Front ds at b x
-front-of x w e = record { from = omega (arith, w .from); within = w .within; modified = e }
-
 pub wrote-of : {g : Got Tree} {row word : ℕ} {ops ws ops′ ws′ : List ℕ} {a : Sums} (t : Tree) (r : List ℕ) → g ≡ got t r → Put t row word ops ws a ops′ ws′ → Wrote g row word ops ws a ops′ ws′
 wrote-of {row = row} {word = word} {ops = ops} {ws = ws} {ops′ = ops′} {ws′ = ws′} {a = a} t r e p u s q =
     let f : t ≡ u = cc in subst (λ (x : Tree). Put x row word ops ws a ops′ ws′) f p
@@ -62,83 +52,193 @@ pub next-of : {g : Got Tree} {row word : ℕ} {b : Sums} {ops ws ops′ ws′ : 
 next-of {row = row} {word = word} {b = b} {ops = ops} {ws = ws} {ops′ = ops′} {ws′ = ws′} {a = a} t r e p u s q =
     let f : t ≡ u = cc in subst (λ (x : Tree). Next x row word b ops ws a ops′ ws′) f p
 
--- the row
-row-of : (r w t x : ℕ) (e m : List ℕ) (a b c : Tree) (k w₀ w₁ w₂ r₀ r₁ r₂ rows ds : ℕ) → x ≡ modifiers e → k ≡ length m → w₀ ≡ w + length m → w₁ ≡ w + length m + length (treeWords a) → w₂ ≡ w + length m + length (treeWords a) + length (treeWords b)
-    → r₀ ≡ r + 1 → r₁ ≡ r + 1 + treeRows a → r₂ ≡ r + 1 + treeRows a + treeRows b → rows ≡ treeRows (node t e m a b c) → ds ≡ length (dwords (node t e m a b c))
-    → rowFor t x k w w₀ w₁ w₂ r₀ r₁ r₂ rows ds ≡ operandRow r w t e m a b c
-unfolding rowFor operandRow
-row-of r w t x e m a b c k w₀ w₁ w₂ r₀ r₁ r₂ rows ds ex ek f₀ f₁ f₂ g₀ g₁ g₂ er ed =
-    λ i. rowFor t (ex i) (ek i) w (f₀ i) (f₁ i) (f₂ i) (g₀ i) (g₁ i) (g₂ i) (er i) (ed i)
+-- an operand with no operand in it, which has n words: its row is R
+record Alone (ds : List ℕ) (at b n row word : ℕ) (R : List ℕ) (t : Tree) : Type 0 where
+  enough : b + n ≤ length ds
+  rows-are : treeRows t ≡ 1
+  words-are : treeWords t ≡ take n (drop b ds)
+  dwords-are : length (dwords t) ≡ b - at + n
+  table-is : treeTable row word t ≡ R
 
--- an operand of immediates
-module _ (ds : List ℕ) (at b x t : ℕ) (f : Front ds at b x) {ops ws row word : ℕ} (q : Room (readImmediates t (slice (at + 1) b ds) (drop b ds)) ops ws row word) (m : ℕ) (em : m ≡ immediates t) where
-  leafy : Leaf ds t (slice (at + 1) b ds) b (q .tree)
-  leafy = leaf-of ds t (slice (at + 1) b ds) b (q .tree) (q .rest) (f .within) (q .is)
+module _ {ds : List ℕ} {at b x n ops ws row word : ℕ} {R : List ℕ} {g : Got Tree} (f : Front ds at b x) (q : Room g ops ws row word) (y : Alone ds at b n row word R (q .tree)) where
+  long : length (treeWords (q .tree)) ≡ n
+  long = ap length (y .words-are) ∙ some-length n ds b (y .enough)
 
-  long : length (take m (drop b ds)) ≡ m
-  long = some-length m ds b (omega (arith, leafy .enough))
-
-  tree-is : q .tree ≡ node t (slice (at + 1) b ds) (take m (drop b ds)) none none none
-  tree-is = rw em (leafy .is)
-
-  record Counts : Type 0 where
-    rows-are : treeRows (q .tree) ≡ 1
-    words-are : length (treeWords (q .tree)) ≡ m
-    dwords-are : length (dwords (q .tree)) ≡ b - at + m
-
-  counts : Counts
-  unfolding treeRows treeWords dwords
-  counts =
-      let le : length (slice (at + 1) b ds) ≡ b - (at + 1) = length-slice (at + 1) b ds (f .within) in
-      let n : length (t ∷ slice (at + 1) b ds ++ take m (drop b ds) ++ [] ++ [] ++ []) ≡ b - at + m = simp length-append (omega (arith, long, f .from)) in
+  alone-room : Lone (length ds) at b n ops ws word
+  alone-room =
       record {
-        rows-are = ap treeRows tree-is;
-        words-are = ap (λ (u : Tree). length (treeWords u)) tree-is ∙ simp append-nil long;
-        dwords-are = ap (λ (u : Tree). length (dwords u)) tree-is ∙ n;
+        from = f .from;
+        within = y .enough;
+        for-rows = omega (arith, y .rows-are, q .for-rows);
+        for-words = omega (arith, long, q .for-words);
+        word-fits = omega (arith, long, q .word-fits);
+        dwords-fit = omega (arith, y .dwords-are, q .dwords-fit);
       }
 
-  pub leaf-copy : (b + m ≤ length ds) × (m ≤ ws)
-  leaf-copy = (omega (arith, leafy .enough), omega (arith, counts .words-are, q .for-words))
-
-  pub leaf-room : 16 ≤ ops
-  leaf-room = omega (arith, counts .rows-are, q .for-rows)
-
-  pub leaf-fits : (s : Sums) → s .rows ≡ 1 → s .words ≡ m → s .dwords ≡ b - at + m → Fits m row word s s s
-  leaf-fits s e₀ e₁ e₂ =
-      record {
-        words₀ = omega arith;
-        words₁ = omega arith;
-        words₂ = omega arith;
-        rows₀ = omega arith;
-        rows₁ = omega arith;
-        rows₂ = omega arith;
-        word-fits = omega (arith, counts .words-are, q .word-fits);
-        row-fits = omega (arith, counts .rows-are, q .row-fits);
-        dwords-fit = omega (arith, counts .dwords-are, q .dwords-fit);
-      }
-
-  pub leaf-put : (s : Sums) → s .rows ≡ 1 → s .words ≡ m → s .dwords ≡ b - at + m → (L W L′ W′ R : List ℕ)
-      → R ≡ rowFor t x m word (word + m) (word + s .words) (word + s .words) (row + 1) (row + s .rows) (row + s .rows) (s .rows) (s .dwords)
-      → L′ ≡ R ++ drop 16 L → W′ ≡ take m (drop b ds) ++ drop m W → Wrote (readImmediates t (slice (at + 1) b ds) (drop b ds)) row word L W s L′ W′
-  unfolding treeRows treeWords dwords treeTable
-  leaf-put s e₀ e₁ e₂ L W L′ W′ R er el ew =
-      let i : List ℕ = take m (drop b ds) in
-      let e : List ℕ = slice (at + 1) b ds in
-      let k : m ≡ length i = sym long in
-      let n : s .dwords ≡ length (dwords (node t e i none none none)) = e₂ ∙ sym (counts .dwords-are) ∙ ap (λ (u : Tree). length (dwords u)) tree-is in
-      let p : R ≡ operandRow row word t e i none none none =
-      er ∙ row-of row word t x e i none none none m (word + m) (word + s .words) (word + s .words) (row + 1) (row + s .rows) (row + s .rows) (s .rows) (s .dwords) (f .modified) k (omega arith) (omega arith) (omega arith) refl (omega arith) (omega arith) e₀ n in
-      let v : i ≡ i ++ [] ++ [] ++ [] = sym (simp append-nil) in
-      let o : operandRow row word t e i none none none ≡ operandRow row word t e i none none none ++ [] ++ [] ++ [] = sym (simp append-nil) in
+  alone-wrote : {a : Sums} {L W L′ W′ : List ℕ} → Stored ds at b n R L W a L′ W′ → Wrote g row word L W a L′ W′
+  alone-wrote {L = L} {W = W} s =
+      let z : 16 ≡ 16 * treeRows (q .tree) = omega (arith, y .rows-are) in
       wrote-of (q .tree) (q .rest) (q .is)
-      (subst (λ (u : Tree). Put u row word L W s L′ W′) (sym tree-is)
+      record {
+        rows-are = s .rows-are ∙ sym (y .rows-are);
+        words-are = s .words-are ∙ sym long;
+        dwords-are = s .dwords-are ∙ sym (y .dwords-are);
+        rows-put = s .rows-put ∙ (λ i. sym (y .table-is) i ++ drop (z i) L);
+        words-put = s .words-put ∙ (λ i. sym (y .words-are) i ++ drop (sym long i) W);
+      }
+
+-- the row of an operand of immediates
+no-reprs : (t : ℕ) → dimension t ≡ 0 → reprs t ≡ 0
+unfolding reprs
+no-reprs t h = rw h (omega arith)
+
+leaf-row : (r w t x ds : ℕ) (e i : List ℕ) → dimension t ≡ 0 → x ≡ modifiers e → immediates t ≡ length i → ds ≡ length (dwords (node t e i none none none)) → operandRow r w t e i none none none ≡ leafRow t x w ds
+unfolding leafRow operandRow own nests treeRows
+leaf-row r w t x ds e i h ex em ed =
+    rw (h, no-reprs t h, past-dim 0 t (omega arith), past-dim 1 t (omega arith), past-dim 2 t (omega arith), ← em, ← ex, ← ed)
+
+-- and of one whose indices are one dword each
+module _ (t : ℕ) (f : Flat t) where
+  flat-word : (i : ℕ) → i < 3 → (w v : ℕ) → (i < dimension t → v ≡ w) → wordPlace (repr i t) v ≡ placed (ltb i (dimension t)) w
+  unfolding own
+  flat-word i h w v p = go (ltb i (dimension t)) refl
+    where
+      go : (c : Bool) → ltb i (dimension t) ≡ c → wordPlace (repr i t) v ≡ placed c w
+      go true q = rw (in-dim t f i h (ltb-true i (dimension t) q)) (p (ltb-true i (dimension t) q))
+      go false q = rw (past-dim i t (ltb-false i (dimension t) q))
+
+  flat-child : (i : ℕ) → i < 3 → (r : ℕ) → childRow (repr i t) r ≡ 0
+  unfolding nests
+  flat-child i h r = go (ltb i (dimension t)) refl
+    where
+      go : (c : Bool) → ltb i (dimension t) ≡ c → childRow (repr i t) r ≡ 0
+      go true q = rw (in-dim t f i h (ltb-true i (dimension t) q))
+      go false q = rw (past-dim i t (ltb-false i (dimension t) q))
+
+  flat-row : (r w x ds : ℕ) (e ws : List ℕ) → length ws ≡ dimension t → x ≡ modifiers e → ds ≡ length (dwords (flatTree t e ws))
+      → operandRow r w t e [] (plain (take 1 ws) none) (plain (take 1 (drop 1 ws)) none) (plain (take 1 (drop 2 ws)) none) ≡ flatRow t x w ds
+  unfolding flatRow operandRow treeRows treeWords
+  flat-row r w x ds e ws l ex ed =
+      let a : ℕ = length (treeWords (plain (take 1 ws) none)) in
+      let b : ℕ = length (treeWords (plain (take 1 (drop 1 ws)) none)) in
+      λ i.
+      typeOf t ∷ form t ∷ selection t ∷ sym ex i ∷ 0 ∷ 0 ∷ dimension t ∷ flat-reprs t f i ∷
+      flat-word 0 (omega arith) w (w + 0) (λ h. omega arith) i ∷
+      flat-word 1 (omega arith) (w + 1) (w + 0 + a) (λ h. first ws (omega arith)) i ∷
+      flat-word 2 (omega arith) (w + 2) (w + 0 + a + b) (λ h. second ws (omega arith)) i ∷
+      flat-child 0 (omega arith) (r + 1) i ∷ flat-child 1 (omega arith) (r + 1 + 0) i ∷ flat-child 2 (omega arith) (r + 1 + 0 + 0) i ∷ 1 ∷ sym ed i ∷ []
+    where
+      first : (ws : List ℕ) → 1 < length ws → w + 0 + length (treeWords (plain (take 1 ws) none)) ≡ w + 1
+      first [] h = impossible (omega arith)
+      first (x ∷ ws) h = omega arith
+
+      second : (ws : List ℕ) → 2 < length ws → w + 0 + length (treeWords (plain (take 1 ws) none)) + length (treeWords (plain (take 1 (drop 1 ws)) none)) ≡ w + 2
+      second [] h = impossible (omega arith)
+      second (x ∷ []) h = impossible (omega arith)
+      second (x ∷ y ∷ ws) h = omega arith
+
+-- an operand that was read, by what stands behind its front
+module _ {left : ℕ} {ds : List ℕ} {at t b x : ℕ} (o : Entered left ds at t b x) {ops ws row word : ℕ} (q : Room (operand left (drop at ds)) ops ws row word) (m : Bool) (em : m ≡ immediate t) where
+  abbrev e : List ℕ
+  e = slice (at + 1) b ds
+
+  long-e : length e ≡ b - (at + 1)
+  long-e = length-slice (at + 1) b ds (o .front .within)
+
+  module _ (h : m ≡ true) where
+    leaf-alone : Alone ds at b (immediates t) row word (leafRow t x word (b - at + immediates t)) (q .tree)
+    unfolding treeRows treeWords dwords treeTable
+    leaf-alone =
+        let z : operand left (drop at ds) ≡ readImmediates t e (drop b ds) = o .is ∙ rw (sym em ∙ h) in
+        let y = leaf-of ds t e b (q .tree) (q .rest) (o .front .within) (sym z ∙ q .is) in
+        let i : List ℕ = take (immediates t) (drop b ds) in
+        let li : length i ≡ immediates t = some-length (immediates t) ds b (y .enough) in
+        let n : length (t ∷ e ++ i ++ [] ++ [] ++ []) ≡ b - at + immediates t = simp length-append (omega (arith, li, long-e, o .front .from)) in
+        subst (Alone ds at b (immediates t) row word (leafRow t x word (b - at + immediates t))) (sym (y .is))
+        record {
+          enough = y .enough;
+          rows-are = refl;
+          words-are = simp append-nil;
+          dwords-are = n;
+          table-is = simp append-nil (leaf-row row word t x (b - at + immediates t) e i (y .flat) (o .front .modified) (sym li) (sym n));
+        }
+
+    pub leaf-room : Lone (length ds) at b (immediates t) ops ws word
+    leaf-room = alone-room (o .front) q leaf-alone
+
+    pub leaf-wrote : {a : Sums} {L W L′ W′ : List ℕ} → Stored ds at b (immediates t) (leafRow t x word (b - at + immediates t)) L W a L′ W′ → Wrote (operand left (drop at ds)) row word L W a L′ W′
+    leaf-wrote s = alone-wrote (o .front) q leaf-alone s
+
+  module _ (h : m ≡ false) where
+    indices : operand left (drop at ds) ≡ readIndices (operand (left - 1)) t e (drop b ds)
+    indices = o .is ∙ rw (sym em ∙ h)
+
+    pub tree-room : Room (readIndices (operand (left - 1)) t e (drop b ds)) ops ws row word
+    tree-room = room-at indices q
+
+    pub tree-wrote : {a : Sums} {L W L′ W′ : List ℕ} → Wrote (readIndices (operand (left - 1)) t e (drop b ds)) row word L W a L′ W′ → Wrote (operand left (drop at ds)) row word L W a L′ W′
+    tree-wrote w = wrote-at indices w
+
+    module _ (f : Flat t) where
+      flat-alone : Alone ds at b (dimension t) row word (flatRow t x word (b - at + dimension t)) (q .tree)
+      unfolding treeTable treeRows
+      flat-alone =
+          let y = flat-of (operand (left - 1)) ds t e b (q .tree) (q .rest) f (o .front .within) (sym indices ∙ q .is) in
+          let u : List ℕ = take (dimension t) (drop b ds) in
+          let lu : length u ≡ dimension t = some-length (dimension t) ds b (y .enough) in
+          let n : length (dwords (flatTree t e u)) ≡ b - at + dimension t = omega (arith, flat-dwords t e u (omega arith), long-e, o .front .from) in
+          subst (Alone ds at b (dimension t) row word (flatRow t x word (b - at + dimension t))) (sym (y .is))
+          record {
+            enough = y .enough;
+            rows-are = refl;
+            words-are = flat-words t e u (omega arith);
+            dwords-are = n;
+            table-is = simp append-nil (flat-row t f row word x (b - at + dimension t) e u lu (o .front .modified) (sym n));
+          }
+
+      pub flat-room : Lone (length ds) at b (dimension t) ops ws word
+      flat-room = alone-room (o .front) q flat-alone
+
+      pub flat-wrote : {a : Sums} {L W L′ W′ : List ℕ} → Stored ds at b (dimension t) (flatRow t x word (b - at + dimension t)) L W a L′ W′ → Wrote (operand left (drop at ds)) row word L W a L′ W′
+      flat-wrote s = alone-wrote (o .front) q flat-alone s
+
+-- the code's rows and words of an operand with no operand in it
+module _ (ds : List ℕ) (at b x t word n : ℕ) {L W L′ W′ : List ℕ} {s : Sums} (e₀ : s .rows ≡ 1) (e₁ : s .words ≡ n) (e₂ : s .dwords ≡ b - at + n) (R : List ℕ) (el : L′ ≡ R ++ drop 16 L) (ew : W′ ≡ take n (drop b ds) ++ drop n W) where
+  stored : (k : ℕ) → n ≡ k → (Q : List ℕ) → R ≡ Q → Stored ds at b k Q L W s L′ W′
+  stored k en Q er =
       record {
         rows-are = e₀;
-        words-are = e₁ ∙ k ∙ ap length v;
-        dwords-are = n;
-        rows-put = el ∙ ap (λ (u : List ℕ). u ++ drop 16 L) (p ∙ o);
-        words-put = ew ∙ (λ z. v z ++ drop ((k ∙ ap length v) z) W);
-      })
+        words-are = e₁ ∙ en;
+        dwords-are = e₂ ∙ ap (λ (i : ℕ). b - at + i) en;
+        rows-put = el ∙ ap (λ (r : List ℕ). r ++ drop 16 L) er;
+        words-put = ew ∙ (λ i. take (en i) (drop b ds) ++ drop (en i) W);
+      }
+
+  pub leaf-stored : n ≡ immediates t → (i : ℕ) → i ≡ placed (ltb 0 n) word → R ≡ loneRow t x i n 0 0 0 0 (b - at + n) → Stored ds at b (immediates t) (leafRow t x word (b - at + immediates t)) L W s L′ W′
+  unfolding leafRow
+  leaf-stored en i ei er =
+      stored (immediates t) en (leafRow t x word (b - at + immediates t))
+      (er ∙ ap (λ (k : ℕ). loneRow t x k n 0 0 0 0 (b - at + n)) ei ∙ ap (λ (k : ℕ). loneRow t x (placed (ltb 0 k) word) k 0 0 0 0 (b - at + k)) en)
+
+  pub flat-stored : n ≡ dimension t → (w₀ w₁ w₂ : ℕ) → w₀ ≡ placed (ltb 0 n) word → w₁ ≡ placed (ltb 1 n) (word + 1) → w₂ ≡ placed (ltb 2 n) (word + 2) → R ≡ loneRow t x 0 0 n w₀ w₁ w₂ (b - at + n)
+      → Stored ds at b (dimension t) (flatRow t x word (b - at + dimension t)) L W s L′ W′
+  unfolding flatRow
+  flat-stored en w₀ w₁ w₂ f₀ f₁ f₂ er =
+      stored (dimension t) en (flatRow t x word (b - at + dimension t))
+      (er ∙ (λ i. loneRow t x 0 0 n (f₀ i) (f₁ i) (f₂ i) (b - at + n)) ∙ ap (λ (k : ℕ). loneRow t x 0 0 k (placed (ltb 0 k) word) (placed (ltb 1 k) (word + 1)) (placed (ltb 2 k) (word + 2)) (b - at + k)) en)
+
+-- and of one with one index
+pub single-stored : (ds : List ℕ) (at t word : ℕ) → dimension t ≡ 1 → at + 1 < length ds → {L W L′ : List ℕ} {s : Sums} → 0 < length W → s .rows ≡ 1 → s .words ≡ 1 → s .dwords ≡ 2
+    → (R : List ℕ) → R ≡ loneRow t 0 0 0 1 word 0 0 2 → L′ ≡ R ++ drop 16 L → (x : ℕ) → x ≡ getD ds (at + 1) 0
+    → Stored ds at (at + 1) (dimension t) (flatRow t 0 word (at + 1 - at + dimension t)) L W s L′ (set W 0 x)
+single-stored ds at t word d h {L} {W} l e₀ e₁ e₂ R er el x ex =
+    let k : take 1 (drop (at + 1) ds) ≡ x ∷ [] = ap (take 1) (drop-cons ds (at + 1) 0 h) ∙ ap (λ (i : ℕ). i ∷ []) (sym ex) in
+    let n : 2 ≡ at + 1 - at + 1 = omega arith in
+    flat-stored ds at (at + 1) 0 t word 1 e₀ e₁ (e₂ ∙ n) R el (rw k (first W l)) (sym d) word 0 0 refl refl refl (er ∙ ap (loneRow t 0 0 0 1 word 0 0) n)
+  where
+    first : (W : List ℕ) → 0 < length W → set W 0 x ≡ x ∷ [] ++ drop 1 W
+    first [] h = impossible (omega arith)
+    first (y ∷ W) h = refl
 
 -- an index
 pub owned-put : (ds : List ℕ) (at o r : ℕ) → o ≡ own r → {b s : Sums} {W ys : List ℕ} {n : ℕ} → OwnRoom (length ds) at (own r) n b → s .rows ≡ b .rows → s .words ≡ b .words + o → s .dwords ≡ b .dwords + o
@@ -151,18 +251,6 @@ owned-put ds at o r eo {b} {s} {W} {ys} q e₀ e₁ e₂ ey =
       words-are = omega arith;
       dwords-are = omega arith;
       words-put = subst (λ (i : ℕ). Over (b .words) (take i (drop (at + b .dwords) ds)) W (putMid (b .words) (length W - b .words) W ys)) eo p;
-    }
-
-pub one-owned : (ds : List ℕ) (at : ℕ) {b s : Sums} {W : List ℕ} → OwnRoom (length ds) at 1 (length W) b → s .rows ≡ b .rows → s .words ≡ b .words + 1 → s .dwords ≡ b .dwords + 1
-    → (x : ℕ) → x ≡ getD ds (at + b .dwords) 0 → Owned ds at 1 b W s (set W (b .words) x)
-one-owned ds at {b} {s} {W} q e₀ e₁ e₂ x ex =
-    let t : take 1 (drop (at + b .dwords) ds) ≡ x ∷ [] = ap (take 1) (drop-cons ds (at + b .dwords) 0 (omega (arith, q .within))) ∙ ap (λ (i : ℕ). i ∷ []) (sym ex) in
-    let p : Over (b .words) (x ∷ []) W (set W (b .words) x) = set-split W (b .words) x (omega (arith, q .for-words)) ∙ sym (append-snoc (take (b .words) W) x (drop (suc (b .words)) W)) ∙ ap (λ (n : ℕ). take (b .words) W ++ (x ∷ []) ++ drop n W) (sym (add-one (b .words))) in
-    record {
-      rows-are = e₀;
-      words-are = e₁;
-      dwords-are = e₂;
-      words-put = subst (λ (l : List ℕ). Over (b .words) l W (set W (b .words) x)) (sym t) p;
     }
 
 module _ (k : ℕ) (ds : List ℕ) (r at : ℕ) {ops ws row word : ℕ} {b : Sums} (q : Ready (readIndex (operand k) r (drop (at + b .dwords) ds)) (length ds) at ops ws row word b) where
@@ -269,29 +357,13 @@ module _ (k : ℕ) (ds : List ℕ) (r at : ℕ) {ops ws row word : ℕ} {b : Sum
           words-put = over-more (b .words) (s₁ .words) owned (treeWords c) W W₁ (putMid (s₁ .words) (length W₁ - s₁ .words) W₁ vs) (omega (arith, counted, owned-long)) (omega (arith, y .words-are, owned-long)) (y .words-put) second;
         })
 
-  -- an index past the dimension, and one with a dword of its own
-  pub absent-put : r ≡ 8 → (L W : List ℕ) → WroteNext (readIndex (operand k) r (drop (at + b .dwords) ds)) row word b L W b L W
-  unfolding own nests
-  absent-put e L W =
-      let z : own r ≡ 0 = ap own e in
-      let n : nests r ≡ false = ap nests e in
-      flat-put false (sym n) (record {
-        rows-are = refl;
-        words-are = omega arith;
-        dwords-are = omega arith;
-        words-put = over-none (b .words) W ∙ ap (λ (i : ℕ). take (b .words) W ++ take i (drop (at + b .dwords) ds) ++ drop (b .words + length (take i (drop (at + b .dwords) ds))) W) (sym z);
-      }) refl L
-
-  pub one-room : r ≡ 0 → OwnRoom (length ds) at 1 ws b
-  unfolding own
-  one-room e = let z : own r ≡ 1 = ap own e in subst (λ (i : ℕ). OwnRoom (length ds) at i ws b) z own-room
-
-  pub one-put : r ≡ 0 → {W W₁ : List ℕ} {s₁ : Sums} → Owned ds at 1 b W s₁ W₁ → (L : List ℕ) → WroteNext (readIndex (operand k) r (drop (at + b .dwords) ds)) row word b L W s₁ L W₁
-  unfolding own nests
-  one-put e {W} {W₁} {s₁} y L =
-      let z : own r ≡ 1 = ap own e in
-      let n : nests r ≡ false = ap nests e in
-      flat-put false (sym n) (subst (λ (i : ℕ). Owned ds at i b W s₁ W₁) (sym z) y) refl L
+-- the row of an operand with indices
+row-of : (r w t x : ℕ) (e : List ℕ) (a b c : Tree) (w₀ w₁ w₂ r₀ r₁ r₂ rows ds : ℕ) → x ≡ modifiers e → w₀ ≡ w + 0 → w₁ ≡ w + 0 + length (treeWords a) → w₂ ≡ w + 0 + length (treeWords a) + length (treeWords b)
+    → r₀ ≡ r + 1 → r₁ ≡ r + 1 + treeRows a → r₂ ≡ r + 1 + treeRows a + treeRows b → rows ≡ treeRows (node t e [] a b c) → ds ≡ length (dwords (node t e [] a b c))
+    → rowFor t x w₀ w₁ w₂ r₀ r₁ r₂ rows ds ≡ operandRow r w t e [] a b c
+unfolding rowFor operandRow
+row-of r w t x e a b c w₀ w₁ w₂ r₀ r₁ r₂ rows ds ex f₀ f₁ f₂ g₀ g₁ g₂ er ed =
+    λ i. rowFor t (ex i) (f₀ i) (f₁ i) (f₂ i) (g₀ i) (g₁ i) (g₂ i) (er i) (ed i)
 
 -- an operand with indices: the sums before the first, and after each
 module _ (k : ℕ) (ds : List ℕ) (t : ℕ) (e : List ℕ) (b : ℕ) {ops ws row word : ℕ} (q : Room (readIndices (operand k) t e (drop b ds)) ops ws row word) (h : b ≤ length ds) where
@@ -398,10 +470,9 @@ module _ (k : ℕ) (ds : List ℕ) (t : ℕ) (e : List ℕ) (b : ℕ) {ops ws ro
             node-sum = omega (arith, next₀ .dwords-are, next₁ .dwords-are, next₂ .dwords-are, numbers .dwords-fit)
 
             module _ (s : Sums) (c : s .rows ≡ s₃ .rows) (d : s .words ≡ s₃ .words) (f : s .dwords ≡ b - at + s₃ .dwords) where
-              pub node-fits : Fits 0 row word s₁ s₂ s
+              pub node-fits : Fits row word s₁ s₂ s
               node-fits =
                   record {
-                    words₀ = omega arith;
                     words₁ = omega (arith, next₁ .words-are);
                     words₂ = omega (arith, next₂ .words-are);
                     rows₀ = omega (arith, next₀ .rows-are);
@@ -440,7 +511,7 @@ module _ (k : ℕ) (ds : List ℕ) (t : ℕ) (e : List ℕ) (b : ℕ) {ops ws ro
                     let p₁ : Over 0 (treeWords x₀ ++ treeWords x₁) W₀ W₂ = over-more 0 (s₁ .words) (treeWords x₀) (treeWords x₁) W₀ W₁ W₂ (omega (arith, numbers .for-words)) (omega (arith, next₀ .words-are)) p₀ (next₁ .words-put) in
                     over-more 0 (s₂ .words) (treeWords x₀ ++ treeWords x₁) (treeWords x₂) W₀ W₂ W₃ (omega (arith, numbers .for-words)) (omega (arith, next₀ .words-are, next₁ .words-are)) p₁ (next₂ .words-put)
 
-                pub node-put : (x : ℕ) → x ≡ modifiers e → (L₄ R : List ℕ) → R ≡ rowFor t x 0 word (word + 0) (word + s₁ .words) (word + s₂ .words) (row + 1) (row + s₁ .rows) (row + s₂ .rows) (s .rows) (s .dwords)
+                pub node-put : (x : ℕ) → x ≡ modifiers e → (L₄ R : List ℕ) → R ≡ rowFor t x word (word + s₁ .words) (word + s₂ .words) (row + 1) (row + s₁ .rows) (row + s₂ .rows) (s .rows) (s .dwords)
                     → L₄ ≡ R ++ drop 16 L₃ → Wrote (readIndices (operand k) t e (drop b ds)) row word L₀ W₀ s L₄ W₃
                 unfolding treeRows treeWords dwords treeTable
                 node-put x ex L₄ R er el =
@@ -458,7 +529,7 @@ module _ (k : ℕ) (ds : List ℕ) (t : ℕ) (e : List ℕ) (b : ℕ) {ops ws ro
                     let lg : length ([] ++ treeWords x₀ ++ treeWords x₁ ++ treeWords x₂) ≡ s .words = simp length-append (omega arith) in
                     let ld : length (t ∷ e ++ [] ++ dwords x₀ ++ dwords x₁ ++ dwords x₂) ≡ s .dwords = simp length-append (omega arith) in
                     let p : R ≡ operandRow row word t e [] x₀ x₁ x₂ =
-                    er ∙ row-of row word t x e [] x₀ x₁ x₂ 0 (word + 0) (word + s₁ .words) (word + s₂ .words) (row + 1) (row + s₁ .rows) (row + s₂ .rows) (s .rows) (s .dwords) ex refl refl (omega arith) (omega arith) refl (omega arith) (omega arith) er₃ (sym ld) in
+                    er ∙ row-of row word t x e x₀ x₁ x₂ word (word + s₁ .words) (word + s₂ .words) (row + 1) (row + s₁ .rows) (row + s₂ .rows) (s .rows) (s .dwords) ex (omega arith) (omega arith) (omega arith) refl (omega arith) (omega arith) er₃ (sym ld) in
                     let z : 16 + length (T₀ ++ T₁ ++ T₂) ≡ 16 * (1 + treeRows x₀ + treeRows x₁ + treeRows x₂) = omega arith in
                     let k₀ : row + s₀ .rows ≡ row + 1 = omega arith in
                     let k₁ : row + s₁ .rows ≡ row + 1 + treeRows x₀ = omega arith in

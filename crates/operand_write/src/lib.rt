@@ -1,6 +1,7 @@
 // Writes an operand that was measured: its rows and its words.
 use tokens::Skip;
 ghost use mathlib.Core.Path.{_≡_};
+ghost use mathlib.Core.Bool.{true};
 ghost use mathlib.Core.List.{_++_};
 ghost use Prim.Native.Nat.{_+_, _-_, _<_, _≤_, _^_};
 ghost use lib.ListN.{length, drop, take};
@@ -73,25 +74,16 @@ pub fn copy(part: &[u8], at: usize, n: usize, words: &mut [u32])
 
 // A place, if it is used.
 fn placed(used: bool, p: usize) -> u32
-    requires { ⌜ p < 2 ^ 32 ⌝ }
+    requires { ⌜ (used ≡ true → p < 2 ^ 32) ⌝ }
     ensures { λ r. ⌜ r ≡ rows.placed used p ⌝ }
 {
     if used { p as u32 } else { 0 }
 }
 
-// The row of an operand with m immediates; a, b and c are the sums after each index.
-fn make_row(
-    token: u32,
-    modifiers: u32,
-    m: usize,
-    row: usize,
-    word: usize,
-    a: Sums,
-    b: Sums,
-    c: Sums,
-) -> Row
-    requires { ⌜ w.Fits m row word a b c ⌝ }
-    ensures { λ r. ⌜ w.listed r ≡ w.rowFor token modifiers m word (word + m) (word + a .words) (word + b .words) (row + 1) (row + a .rows) (row + b .rows) (c .rows) (c .dwords) ⌝ }
+// The row of an operand with indices; a, b and c are the sums after each of them.
+fn make_row(token: u32, modifiers: u32, row: usize, word: usize, a: Sums, b: Sums, c: Sums) -> Row
+    requires { ⌜ w.Fits row word a b c ⌝ }
+    ensures { λ r. ⌜ w.listed r ≡ w.rowFor token modifiers word (word + a .words) (word + b .words) (row + 1) (row + a .rows) (row + b .rows) (c .rows) (c .dwords) ⌝ }
 {
     let r0 = tokens::repr(0, token);
     let r1 = tokens::repr(1, token);
@@ -101,11 +93,11 @@ fn make_row(
         form: tokens::form(token),
         selection: tokens::selection(token),
         modifiers,
-        imm: placed(0 < m, word),
-        imms: m as u32,
+        imm: 0,
+        imms: 0,
         dimension: tokens::dimension(token),
         reprs: tokens::reprs(token),
-        w0: placed(0 < tokens::own(r0), word + m),
+        w0: placed(0 < tokens::own(r0), word),
         w1: placed(0 < tokens::own(r1), word + a.words),
         w2: placed(0 < tokens::own(r2), word + b.words),
         c0: placed(tokens::nests(r0), row + 1),
@@ -113,6 +105,40 @@ fn make_row(
         c2: placed(tokens::nests(r2), row + b.rows),
         rows: c.rows as u32,
         dwords: c.dwords as u32,
+    }
+}
+
+// The row of an operand with no operand in it: i is the place of its immediates, of which there are m.
+fn lone_row(
+    token: u32,
+    modifiers: u32,
+    i: u32,
+    m: u32,
+    dimension: u32,
+    w0: u32,
+    w1: u32,
+    w2: u32,
+    dwords: u32,
+) -> Row
+    ensures { λ r. ⌜ w.listed r ≡ w.loneRow token modifiers i m dimension w0 w1 w2 dwords ⌝ }
+{
+    Row {
+        kind: tokens::type_of(token),
+        form: tokens::form(token),
+        selection: tokens::selection(token),
+        modifiers,
+        imm: i,
+        imms: m,
+        dimension,
+        reprs: 0,
+        w0,
+        w1,
+        w2,
+        c0: 0,
+        c1: 0,
+        c2: 0,
+        rows: 1,
+        dwords,
     }
 }
 
@@ -125,24 +151,77 @@ fn leaf(
     modifiers: u32,
     ops: &mut [u32],
     words: &mut [u32],
-    row: usize,
     word: usize,
 ) -> Sums
-    requires { ⌜ w.Front (dwordsOf (now part)) at body modifiers × w.Room (op.readImmediates token (slice (at + 1) body (dwordsOf (now part))) (drop body (dwordsOf (now part)))) (length (now ops)) (length (now words)) row word ⌝ }
-    ensures { λ a. ⌜ w.Wrote (op.readImmediates token (slice (at + 1) body (dwordsOf (now (part .entry)))) (drop body (dwordsOf (now (part .entry))))) row word (now (ops .entry)) (now (words .entry)) a (now (ops .exit)) (now (words .exit)) ⌝ }
+    requires { ⌜ w.Lone (length (dwordsOf (now part))) at body (op.immediates token) (length (now ops)) (length (now words)) word ⌝ }
+    ensures { λ a. ⌜ w.Stored (dwordsOf (now (part .entry))) at body (op.immediates token) (w.leafRow token modifiers word (body - at + op.immediates token)) (now (ops .entry)) (now (words .entry)) a (now (ops .exit)) (now (words .exit)) ⌝ }
 {
-    let m = tokens::immediates(token);
-    copy(part, body, m, words);
-    let sums = Sums {
-        rows: 1,
-        words: m,
-        dwords: body - at + m,
-    };
+    let n = tokens::immediates(token);
+    copy(part, body, n, words);
+    let dwords = body - at + n;
+    let place = placed(0 < n, word);
     put_row(
         ops,
-        make_row(token, modifiers, m, row, word, sums, sums, sums),
+        lone_row(token, modifiers, place, n as u32, 0, 0, 0, 0, dwords as u32),
     );
-    sums
+    Sums {
+        rows: 1,
+        words: n,
+        dwords,
+    }
+}
+
+// Writes an operand whose indices are one dword each, whose front is read.
+fn flat(
+    part: &[u8],
+    at: usize,
+    token: u32,
+    body: usize,
+    modifiers: u32,
+    ops: &mut [u32],
+    words: &mut [u32],
+    word: usize,
+) -> Sums
+    requires { ⌜ w.Lone (length (dwordsOf (now part))) at body (op.dimension token) (length (now ops)) (length (now words)) word ⌝ }
+    ensures { λ a. ⌜ w.Stored (dwordsOf (now (part .entry))) at body (op.dimension token) (w.flatRow token modifiers word (body - at + op.dimension token)) (now (ops .entry)) (now (words .entry)) a (now (ops .exit)) (now (words .exit)) ⌝ }
+{
+    let d = tokens::dimension(token);
+    let n = d as usize;
+    copy(part, body, n, words);
+    let dwords = body - at + n;
+    let w0 = placed(0 < n, word);
+    let w1 = placed(1 < n, word + 1);
+    let w2 = placed(2 < n, word + 2);
+    put_row(
+        ops,
+        lone_row(token, modifiers, 0, 0, d, w0, w1, w2, dwords as u32),
+    );
+    Sums {
+        rows: 1,
+        words: n,
+        dwords,
+    }
+}
+
+// Writes an operand with one index of one dword, and no extensions.
+fn single(
+    part: &[u8],
+    at: usize,
+    token: u32,
+    ops: &mut [u32],
+    words: &mut [u32],
+    word: usize,
+) -> Sums
+    requires { ⌜ (op.dimension token ≡ 1) × w.Lone (length (dwordsOf (now part))) at (at + 1) (op.dimension token) (length (now ops)) (length (now words)) word ⌝ }
+    ensures { λ a. ⌜ w.Stored (dwordsOf (now (part .entry))) at (at + 1) (op.dimension token) (w.flatRow token 0 word (at + 1 - at + op.dimension token)) (now (ops .entry)) (now (words .entry)) a (now (ops .exit)) (now (words .exit)) ⌝ }
+{
+    words[0] = tokens::dword(part, at + 1);
+    put_row(ops, lone_row(token, 0, 0, 0, 1, word as u32, 0, 0, 2));
+    Sums {
+        rows: 1,
+        words: 1,
+        dwords: 2,
+    }
 }
 
 // Writes the dwords of its own that an index has, behind what is counted.
@@ -160,23 +239,8 @@ fn own_words(part: &[u8], at: usize, r: u32, words: &mut [u32], before: Sums) ->
     }
 }
 
-// Writes one dword behind what is counted.
-fn one_word(part: &[u8], at: usize, words: &mut [u32], before: Sums) -> Sums
-    requires { ⌜ w.OwnRoom (length (dwordsOf (now part))) at 1 (length (now words)) before ⌝ }
-    ensures { λ a. ⌜ w.Owned (dwordsOf (now (part .entry))) at 1 before (now (words .entry)) a (now (words .exit)) ⌝ }
-{
-    let start = before.words;
-    let place = at + before.dwords;
-    words[start] = tokens::dword(part, place);
-    Sums {
-        rows: before.rows,
-        words: start + 1,
-        dwords: before.dwords + 1,
-    }
-}
-
-// Writes an index with dwords or an operand behind what is counted.
-fn present(
+// Writes an index of a representation behind what is counted.
+fn index(
     part: &[u8],
     at: usize,
     r: u32,
@@ -196,7 +260,7 @@ fn present(
     }
     let first = next.rows * 16;
     let start = next.words;
-    let x = write(
+    let x = deep(
         part,
         at + next.dwords,
         left - 1,
@@ -212,31 +276,75 @@ fn present(
     }
 }
 
-// Writes an index of a representation behind what is counted.
-fn index(
+// Writes an operand by its indices, one after the other; its front is read.
+fn tree(
     part: &[u8],
     at: usize,
-    r: u32,
+    token: u32,
+    body: usize,
+    modifiers: u32,
     left: usize,
     ops: &mut [u32],
     words: &mut [u32],
     row: usize,
     word: usize,
-    before: Sums,
 ) -> Sums
-    requires { ⌜ (0 < left) × w.Ready (op.readIndex (op.operand (left - 1)) r (drop (at + before .dwords) (dwordsOf (now part)))) (length (dwordsOf (now part))) at (length (now ops)) (length (now words)) row word before ⌝ }
-    ensures { λ a. ⌜ w.WroteNext (op.readIndex (op.operand (left - 1)) r (drop (at + before .dwords) (dwordsOf (now (part .entry))))) row word before (now (ops .entry)) (now (words .entry)) a (now (ops .exit)) (now (words .exit)) ⌝ }
+    requires { ⌜ (0 < left) × w.Front (dwordsOf (now part)) at body modifiers × w.Room (op.readIndices (op.operand (left - 1)) token (slice (at + 1) body (dwordsOf (now part))) (drop body (dwordsOf (now part)))) (length (now ops)) (length (now words)) row word ⌝ }
+    ensures { λ a. ⌜ w.Wrote (op.readIndices (op.operand (left - 1)) token (slice (at + 1) body (dwordsOf (now (part .entry)))) (drop body (dwordsOf (now (part .entry))))) row word (now (ops .entry)) (now (words .entry)) a (now (ops .exit)) (now (words .exit)) ⌝ }
 {
-    if r == 8 {
-        return before;
-    }
-    if r == 0 {
-        return one_word(part, at, words, before);
-    }
-    present(part, at, r, left, ops, words, row, word, before)
+    let none = Sums {
+        rows: 1,
+        words: 0,
+        dwords: 0,
+    };
+    let r0 = tokens::repr(0, token);
+    let r1 = tokens::repr(1, token);
+    let r2 = tokens::repr(2, token);
+    let a = index(part, body, r0, left, ops, words, row, word, none);
+    let b = index(part, body, r1, left, ops, words, row, word, a);
+    let c = index(part, body, r2, left, ops, words, row, word, b);
+    let sums = Sums {
+        rows: c.rows,
+        words: c.words,
+        dwords: body - at + c.dwords,
+    };
+    put_row(ops, make_row(token, modifiers, row, word, a, b, sums));
+    sums
 }
 
-// Writes an operand that was measured, at a place, with so many depths left.
+// Writes any operand that was measured.
+pub fn deep(
+    part: &[u8],
+    at: usize,
+    left: usize,
+    ops: &mut [u32],
+    words: &mut [u32],
+    row: usize,
+    word: usize,
+) -> Sums
+    requires { ⌜ w.Room (op.operand left (drop at (dwordsOf (now part)))) (length (now ops)) (length (now words)) row word ⌝ }
+    ensures { λ a. ⌜ w.Wrote (op.operand left (drop at (dwordsOf (now (part .entry))))) row word (now (ops .entry)) (now (words .entry)) a (now (ops .exit)) (now (words .exit)) ⌝ }
+{
+    let token = tokens::dword(part, at);
+    let Skip::To(body) = tokens::chain(part, at + 1, tokens::follows(token)) else {
+        return Sums {
+            rows: 0,
+            words: 0,
+            dwords: 0,
+        };
+    };
+    let x = tokens::modifiers_of(part, at + 1, body);
+    if tokens::immediate(token) {
+        return leaf(part, at, token, body, x, ops, words, word);
+    }
+    if token / 0x40_0000 % 512 == 0 {
+        return flat(part, at, token, body, x, ops, words, word);
+    }
+    tree(part, at, token, body, x, left, ops, words, row, word)
+}
+
+// Writes an operand that was measured, at a place, with so many depths left. Most have neither extensions nor
+// representations, and one index: they go a short way.
 pub fn write(
     part: &[u8],
     at: usize,
@@ -250,29 +358,14 @@ pub fn write(
     ensures { λ a. ⌜ w.Wrote (op.operand left (drop at (dwordsOf (now (part .entry))))) row word (now (ops .entry)) (now (words .entry)) a (now (ops .exit)) (now (words .exit)) ⌝ }
 {
     let token = tokens::dword(part, at);
-    let none = Sums {
-        rows: 1,
-        words: 0,
-        dwords: 0,
-    };
-    let Skip::To(body) = tokens::chain(part, at + 1, tokens::follows(token)) else {
-        return none;
-    };
-    let x = tokens::modifiers_of(part, at + 1, body);
-    if tokens::immediate(token) {
-        return leaf(part, at, token, body, x, ops, words, row, word);
+    if token >= 0x40_0000 {
+        return deep(part, at, left, ops, words, row, word);
     }
-    let r0 = tokens::repr(0, token);
-    let r1 = tokens::repr(1, token);
-    let r2 = tokens::repr(2, token);
-    let a = index(part, body, r0, left, ops, words, row, word, none);
-    let b = index(part, body, r1, left, ops, words, row, word, a);
-    let c = index(part, body, r2, left, ops, words, row, word, b);
-    let sums = Sums {
-        rows: c.rows,
-        words: c.words,
-        dwords: body - at + c.dwords,
-    };
-    put_row(ops, make_row(token, x, 0, row, word, a, b, sums));
-    sums
+    if tokens::immediate(token) {
+        return leaf(part, at, token, at + 1, 0, ops, words, word);
+    }
+    if token / 0x10_0000 == 1 {
+        return single(part, at, token, ops, words, word);
+    }
+    flat(part, at, token, at + 1, 0, ops, words, word)
 }

@@ -7,27 +7,9 @@ use lib.ListN.{getD}
 use lib.Dec.{eqb, ltb}
 use lib.Bits.{bitAnd, and-mask}
 use native.Mathlib.Omega.{arith}
-use borrow.Author.Tests.{ltb-true, lt-ltb, le-ltb, ne-eqb}
+use borrow.Author.Tests.{ltb-true, lt-ltb, le-ltb}
 use Rattle.format.specs.Dwords.{bits, bitsFrom}
-use Rattle.format.specs.Operands.{typeOf, dimension, exactDword, form, selection, immediates, reprs, repr, own, modifiers, exactExtension, extensionWith}
-
--- the form
-module _ (t : ℕ) where
-  pub form-one : t % 4 ≡ 1 → 1 ≡ form t
-  unfolding form
-  form-one h = cc
-
-  pub form-four : t % 4 ≡ 2 → t / 4 % 4 < 3 → 2 + t / 4 % 4 ≡ form t
-  unfolding form
-  form-four h k = cc (lt-ltb (t / 4 % 4) 3 k)
-
-  pub form-mode : t % 4 ≡ 2 → 3 ≤ t / 4 % 4 → 0 ≡ form t
-  unfolding form
-  form-mode h k = cc (le-ltb (t / 4 % 4) 3 k)
-
-  pub form-count : (t % 4 ≡ 1 → ⊥) → (t % 4 ≡ 2 → ⊥) → 0 ≡ form t
-  unfolding form
-  form-count h k = cc (ne-eqb (t % 4) 1 h, ne-eqb (t % 4) 2 k)
+use Rattle.format.specs.Operands.{dimension, form, selection, immediates, reprs, repr, own, modifiers, exactExtension, extensionWith}
 
 -- the bits that a form's selection has
 abbrev pub chosen : ℕ → ℕ
@@ -35,14 +17,6 @@ chosen f = getD (0 ∷ 0 ∷ 4 ∷ 8 ∷ 2 ∷ []) f 0
 
 abbrev pub mask : ℕ → ℕ
 mask f = 2 ^ chosen f - 1
-
-pub mask-none : (f : ℕ) → (f ≡ 2 → ⊥) → (f ≡ 3 → ⊥) → (f ≡ 4 → ⊥) → 0 ≡ mask f
-mask-none zero a b c = refl
-mask-none (suc zero) a b c = refl
-mask-none (suc (suc zero)) a b c = absurd (a refl)
-mask-none (suc (suc (suc zero))) a b c = absurd (b refl)
-mask-none (suc (suc (suc (suc zero)))) a b c = absurd (c refl)
-mask-none (suc (suc (suc (suc (suc f))))) a b c = refl
 
 pub selected-is : (t f m : ℕ) → f ≡ form t → m ≡ mask f → bitAnd (t / 2 ^ 4) m ≡ selection t
 unfolding selection
@@ -115,34 +89,6 @@ own-none (suc (suc (suc (suc (suc r))))) a b c d = refl
 abbrev pub low : ℕ → ℕ
 low f = getD (0 ∷ 1 ∷ 2 ∷ 6 ∷ 10 ∷ []) f 0
 
-pub low-none : (f : ℕ) → (f ≡ 1 → ⊥) → (f ≡ 2 → ⊥) → (f ≡ 3 → ⊥) → (f ≡ 4 → ⊥) → 0 ≡ low f
-low-none zero a b c d = refl
-low-none (suc zero) a b c d = absurd (a refl)
-low-none (suc (suc zero)) a b c d = absurd (b refl)
-low-none (suc (suc (suc zero))) a b c d = absurd (c refl)
-low-none (suc (suc (suc (suc zero)))) a b c d = absurd (d refl)
-low-none (suc (suc (suc (suc (suc f))))) a b c d = refl
-
-pub low-small : (f : ℕ) → low f < 11
-low-small zero = omega arith
-low-small (suc zero) = omega arith
-low-small (suc (suc zero)) = omega arith
-low-small (suc (suc (suc zero))) = omega arith
-low-small (suc (suc (suc (suc zero)))) = omega arith
-low-small (suc (suc (suc (suc (suc f))))) = omega arith
-
-pub selection-small : (t : ℕ) → selection t < 2 ^ 8
-unfolding selection
-selection-small t = go (form t)
-  where
-    go : (f : ℕ) → bitsFrom 4 (chosen f) t < 2 ^ 8
-    go zero = omega arith
-    go (suc zero) = omega arith
-    go (suc (suc zero)) = omega arith
-    go (suc (suc (suc zero))) = omega arith
-    go (suc (suc (suc (suc zero)))) = omega arith
-    go (suc (suc (suc (suc (suc f))))) = omega arith
-
 pub reprs-small : (t : ℕ) → reprs t < 2 ^ 9
 unfolding reprs
 reprs-small t = go (dimension t) (omega arith)
@@ -162,9 +108,3 @@ extension-none x m e h = cc (le-ltb 0 m h)
 pub extension-some : (x m : ℕ) → m ≡ modifiers (x ∷ []) → 0 < m → eqb x (extensionWith (bits 6 7 x) (bits 14 16 x) (bits 17 17 x)) ≡ exactExtension (x ∷ [])
 unfolding exactExtension
 extension-some x m e h = cc (lt-ltb 0 m h)
-
--- the dword is the sum of its fields
-pub exact-is : (t f l s k d r : ℕ) → f ≡ form t → l ≡ low f → s ≡ selection t → k ≡ typeOf t → d ≡ dimension t → r ≡ reprs t
-    → eqb t (l + s * 2 ^ 4 + k * 2 ^ 12 + d * 2 ^ 20 + r * 2 ^ 22 + t / 2 ^ 31 % 2 * 2 ^ 31) ≡ exactDword t
-unfolding exactDword
-exact-is t f l s k d r ef el es ek ed er = rw (el, ef, es, ek, ed, er)

@@ -7,9 +7,8 @@ use native.Mathlib.Omega.{arith}
 use lib.ListN.{length, getD, take, drop, length-append, length-drop}
 use lib.Seq.{drop-cons, drop-append-seam, take-append-seam, drop-at, drop-drop, take-add, length-take-le, slice}
 use Rattle.format.specs.Dwords.{Got, malformed, got, dword, some, chain}
-use Rattle.format.proofs.Dwords.{All, unmet, met, impossible, Linked, chain-linked}
+use Rattle.format.proofs.Dwords.{All, met, impossible, Linked, chain-linked}
 use Rattle.tokens.specs.Chains.{ends}
-use Rattle.tokens.specs.declared.Skip.{Skip}
 use Rattle.tokens.specs.declared.Skip.the-variants.{To, Off}
 
 pub dword-at : (ds : List ℕ) (at : ℕ) → at < length ds → dword (drop at ds) ≡ got (getD ds at 0) (drop (suc at) ds)

@@ -8,6 +8,7 @@ ghost use Rattle.format.specs.Dwords as d;
 ghost use Rattle.format.specs.Dwords.{dwordOf, dwordsOf};
 ghost use Rattle.format.specs.Operands as op;
 ghost use Rattle.tokens.specs.Chains.{ends};
+ghost use Rattle.tokens.specs.Low.{allowedBits};
 
 // Where a chain of extensions ends; or it runs off the end of its part.
 pub enum Skip {
@@ -71,30 +72,19 @@ pub fn immediate(t: u32) -> bool
     k == 4 || k == 5
 }
 
-// 0 none, 1 one, 2 mask, 3 swizzle, 4 scalar.
+// 0 none, 1 one, 2 mask, 3 swizzle, 4 scalar: a digit of the number for each value of the lowest four bits.
 pub fn form(t: u32) -> u32
     ensures { λ r. ⌜ r ≡ op.form t ⌝ }
 {
-    if t % 4 == 1 {
-        return 1;
-    }
-    if t % 4 == 2 {
-        let mode = t / 4 % 4;
-        return if mode < 3 { 2 + mode } else { 0 };
-    }
-    0
+    ((0x0010_0410_0310_0210u64 >> (t % 16 * 4)) % 16) as u32
 }
 
-// The bits of a form's selection, all set.
+// The bits of a form's selection, all set: two digits of the number for each form.
 fn selected(form: u32) -> u32
+    requires { ⌜ form < 5 ⌝ }
     ensures { λ r. ⌜ r ≡ 2 ^ getD (0 ∷ 0 ∷ 4 ∷ 8 ∷ 2 ∷ []) form 0 - 1 ⌝ }
 {
-    match form {
-        2 => 15,
-        3 => 255,
-        4 => 3,
-        _ => 0,
-    }
+    ((0x03_FF0F_0000u64 >> (form * 8)) % 256) as u32
 }
 
 pub fn selection(t: u32) -> u32
@@ -169,15 +159,15 @@ pub fn known(r: u32) -> bool
     r < 5 || r == 8
 }
 
-// The low four bits that a form has.
-fn lowest(form: u32) -> u32
-    ensures { λ r. ⌜ r ≡ getD (0 ∷ 1 ∷ 2 ∷ 6 ∷ 10 ∷ []) form 0 ⌝ }
+// The bits that an operand's dword may have below its type, by the lowest four of them.
+fn allowed(lowest: u32) -> u32
+    ensures { λ r. ⌜ r ≡ allowedBits lowest ⌝ }
 {
-    match form {
-        1 => 1,
-        2 => 2,
-        3 => 6,
-        4 => 10,
+    match lowest {
+        1 => 0x001,
+        2 => 0x0F2,
+        6 => 0xFF6,
+        10 => 0x03A,
         _ => 0,
     }
 }
@@ -186,9 +176,8 @@ fn lowest(form: u32) -> u32
 pub fn exact_dword(t: u32) -> bool
     ensures { λ r. ⌜ r ≡ op.exactDword t ⌝ }
 {
-    let low = lowest(form(t)) + selection(t) * 16 + type_of(t) * 0x1000;
-    let most = low + dimension(t) * 0x10_0000 + reprs(t) * 0x40_0000;
-    t == most + t / 0x8000_0000 % 2 * 0x8000_0000
+    let low = t % 4096;
+    (low & allowed(low % 16) == low) & (t / 0x40_0000 % 512 == reprs(t))
 }
 
 // The modifiers that an extension holds.

@@ -1,15 +1,11 @@
 use Prim.Native.Nat.{_-_}
-use mathlib.Core.Path.{refl, _∙_}
+use mathlib.Core.Path.{refl}
 use native.Mathlib.Omega.{arith}
 use Rattle.format.specs.Dwords.{dwordsOf}
 use Rattle.format.proofs.Dwords.{length-dwords}
-use Rattle.instruction_write.proofs.Types.{Sought, found, seeks-on, not-found, Summed, sum-begin, type-range, sum-small, sums-on, summed, bit-1, bit-2, bit-3, chained-at, unchained-at, cond-yes, cond-no}
-use borrow.Author.Needs.{needs}
+use Rattle.instruction_write.proofs.Types.{Sought, found, seeks-on, not-found}
 use Rattle.instruction_write.proofs.of_type.Statement.{statement}
 use Rattle.instruction_write.proofs.of_type.Tie as tie
-use Rattle.instruction_write.proofs.of_type.Reads as reads
-use Rattle.instruction_write.proofs.of_type.Lts as lts
-use Rattle.tokens.proofs.dword.Reads as dword-reads
 
 abbrev Inv-loop : tie.InvT-loop
 Inv-loop part from to k at₀ at = Sought (dwordsOf part) from to k at

@@ -5,8 +5,6 @@ use Rattle.instruction_write.specs.Writes.{listed}
 use borrow.Author.Needs.{needs}
 use Rattle.instruction_write.proofs.put_row.Statement.{statement}
 use Rattle.instruction_write.proofs.put_row.Tie as tie
-use Rattle.instruction_write.proofs.put_row.Reads as reads
-use Rattle.instruction_write.proofs.put_row.Lts as lts
 
 -- src/lib.rt:40:5
 slice-write-rows : tie.Need-slice-write-rows

@@ -1,14 +1,6 @@
-use Prim.Native.Nat.{_-_}
-use mathlib.Core.Path.{refl, _∙_}
-use native.Mathlib.Omega.{arith}
-use Rattle.format.specs.Dwords.{dwordsOf}
-use Rattle.format.proofs.Dwords.{length-dwords}
-use Rattle.instruction_write.proofs.Types.{Sought, found, seeks-on, not-found, Summed, sum-begin, type-range, sum-small, sums-on, summed, bit-1, bit-2, bit-3, chained-at, unchained-at, cond-yes, cond-no}
-use borrow.Author.Needs.{needs}
+use Rattle.instruction_write.proofs.Types.{bit-1, bit-2, bit-3}
 use Rattle.instruction_write.proofs.type_bit.Statement.{statement}
 use Rattle.instruction_write.proofs.type_bit.Tie as tie
-use Rattle.instruction_write.proofs.type_bit.Reads as reads
-use Rattle.instruction_write.proofs.type_bit.Lts as lts
 
 -- src/lib.rt:89:9
 returns : tie.Need-returns

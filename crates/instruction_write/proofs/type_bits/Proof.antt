@@ -1,16 +1,10 @@
 use Prim.Native.Nat.{_-_}
-use mathlib.Core.Path.{refl, _∙_}
 use native.Mathlib.Omega.{arith}
 use Rattle.format.specs.Dwords.{dwordsOf}
 use Rattle.format.proofs.Dwords.{length-dwords}
-use Rattle.instruction_write.proofs.Types.{Sought, found, seeks-on, not-found, Summed, sum-begin, type-range, sum-small, sums-on, summed, bit-1, bit-2, bit-3, chained-at, unchained-at, cond-yes, cond-no}
-use borrow.Author.Needs.{needs}
+use Rattle.instruction_write.proofs.Types.{Summed, sum-begin, type-range, sum-small, sums-on, summed}
 use Rattle.instruction_write.proofs.type_bits.Statement.{statement}
 use Rattle.instruction_write.proofs.type_bits.Tie as tie
-use Rattle.instruction_write.proofs.type_bits.Reads as reads
-use Rattle.instruction_write.proofs.type_bits.Lts as lts
-use Rattle.instruction_write.proofs.type_bit.Reads as type-bit-reads
-use Rattle.tokens.proofs.dword.Reads as dword-reads
 
 abbrev Inv-loop : tie.InvT-loop
 Inv-loop part from to bits₀ at₀ bits at = Summed (dwordsOf part) from to at bits

@@ -1,62 +1,62 @@
-use Prim.Native.Nat.{_-_}
-use mathlib.Core.Path.{refl, _∙_, ap}
-use native.Mathlib.Omega.{arith}
-use Rattle.format.specs.Dwords.{dwordsOf}
-use Rattle.format.proofs.Dwords.{length-dwords}
-use Rattle.instruction_write.proofs.Knowing.{ready-at, written-at, read-here, unread-room, unread-written}
+-- Unread, counted or not.
+use mathlib.Core.Path.{_∙_}
 use borrow.Author.Needs.{needs}
+use Rattle.layouts.proofs.Others.{is-counted, is-uncounted}
+use Rattle.instruction_write.proofs.Counting.{either}
+use Rattle.instruction_write.proofs.Knowing.{ready-at, written-at, read-here, unread-room, unread-written}
 use Rattle.instruction_write.proofs.write.Statement.{statement}
 use Rattle.instruction_write.proofs.write.Tie as tie
-use Rattle.instruction_write.proofs.write.Reads as reads
-use Rattle.instruction_write.proofs.write.Lts as lts
-use Rattle.instruction_write.proofs.write_known.Reads as write-known-reads
-use Rattle.instruction_write.proofs.write_unread.Reads as write-unread-reads
-use Rattle.layouts.proofs.layout_of.Reads as layout-of-reads
-use Rattle.tokens.proofs.dword.Reads as dword-reads
 
--- src/lib.rt:347:9
 dword-requires : tie.Need-dword-requires
 dword-requires c κs = search needs
 
--- src/lib.rt:350:9
 write-unread-requires : tie.Need-write-unread-requires
 write-unread-requires c κs = unread-room _ (c .before .before .before .before .before .before .before .before .args .model51) _ _ (c .before .before .before .dword .ensures) (c .before .before .if1 .taken) (c .before .before .before .before .before .before .before .before .pre)
 
--- src/lib.rt:350:9
 same-length : tie.Need-same-length
 same-length c = search needs
 
--- src/lib.rt:350:9
 same-length-2 : tie.Need-same-length-2
 same-length-2 c = search needs
 
--- src/lib.rt:350:9
 returns : tie.Need-returns
 returns c = unread-written _ (c .before .before .before .before .before .before .before .before .before .before .before .before .before .args .model51) _ _ (c .before .before .before .before .before .before .before .before .dword .ensures) (c .before .before .before .before .before .before .before .if1 .taken) _ (c .before .before .before .before .write-unread .ensures)
 
--- src/lib.rt:354:9
-layout-of-requires : tie.Need-layout-of-requires
-layout-of-requires c κs = search needs
+operand-count-requires : tie.Need-operand-count-requires
+operand-count-requires c κs = search needs
 
--- src/lib.rt:352:5
-write-known-requires : tie.Need-write-known-requires
-write-known-requires c κs = (c .before .before .before .before .before .dword .ensures, c .before .before .before .layout-of .ensures, ready-at (read-here _ (c .before .before .before .before .before .before .before .before .before .before .args .model51) _ _ (c .before .before .before .before .before .dword .ensures) (c .before .before .before .before .if1 .left)) (c .before .before .before .before .before .before .before .before .before .before .pre))
+write-counted-requires : tie.Need-write-counted-requires
+write-counted-requires c κs = (c .before .before .before .before .before .before .dword .ensures, is-counted _ _ (c .before .before .before .before .operand-count .ensures) (c .before .before .before .if2 .taken), ready-at (read-here _ (c .before .before .before .before .before .before .before .before .before .before .before .args .model51) _ _ (c .before .before .before .before .before .before .dword .ensures) (c .before .before .before .before .before .if1 .left) ∙ either _ _ _ _ (is-counted _ _ (c .before .before .before .before .operand-count .ensures) (c .before .before .before .if2 .taken))) (c .before .before .before .before .before .before .before .before .before .before .before .pre))
 
--- src/lib.rt:333:1
 same-length-3 : tie.Need-same-length-3
 same-length-3 c = search needs
 
--- src/lib.rt:333:1
 same-length-4 : tie.Need-same-length-4
 same-length-4 c = search needs
 
--- src/lib.rt:333:1
 same-length-5 : tie.Need-same-length-5
 same-length-5 c = search needs
 
--- src/lib.rt:333:1
 returns-2 : tie.Need-returns-2
-returns-2 c = written-at (read-here _ (c .before .before .before .before .before .before .before .before .before .before .before .before .before .before .before .before .before .args .model51) _ _ (c .before .before .before .before .before .before .before .before .before .before .before .before .dword .ensures) (c .before .before .before .before .before .before .before .before .before .before .before .if1 .left)) (c .before .before .before .before .before .before .write-known .ensures)
+returns-2 c = written-at (read-here _ (c .before .before .before .before .before .before .before .before .before .before .before .before .before .before .before .before .before .before .args .model51) _ _ (c .before .before .before .before .before .before .before .before .before .before .before .before .before .dword .ensures) (c .before .before .before .before .before .before .before .before .before .before .before .before .if1 .left) ∙ either _ _ _ _ (is-counted _ _ (c .before .before .before .before .before .before .before .before .before .before .before .operand-count .ensures) (c .before .before .before .before .before .before .before .before .before .before .if2 .taken))) (c .before .before .before .before .before .before .write-counted .ensures)
+
+uncounted-layout-requires : tie.Need-uncounted-layout-requires
+uncounted-layout-requires c κs = is-uncounted _ _ (c .before .operand-count .ensures) (c .if2 .left)
+
+write-uncounted-requires : tie.Need-write-uncounted-requires
+write-uncounted-requires c κs = (c .before .before .before .before .before .before .before .dword .ensures, c .before .before .before .uncounted-layout .ensures .0, ready-at (read-here _ (c .before .before .before .before .before .before .before .before .before .before .before .before .args .model51) _ _ (c .before .before .before .before .before .before .before .dword .ensures) (c .before .before .before .before .before .before .if1 .left)) (c .before .before .before .before .before .before .before .before .before .before .before .before .pre), c .before .before .before .uncounted-layout .ensures .1)
+
+same-length-6 : tie.Need-same-length-6
+same-length-6 c = search needs
+
+same-length-7 : tie.Need-same-length-7
+same-length-7 c = search needs
+
+same-length-8 : tie.Need-same-length-8
+same-length-8 c = search needs
+
+returns-3 : tie.Need-returns-3
+returns-3 c = written-at (read-here _ (c .before .before .before .before .before .before .before .before .before .before .before .before .before .before .before .before .before .before .before .args .model51) _ _ (c .before .before .before .before .before .before .before .before .before .before .before .before .before .before .dword .ensures) (c .before .before .before .before .before .before .before .before .before .before .before .before .before .if1 .left)) (c .before .before .before .before .before .before .write-uncounted .ensures)
 
 pub write-spec : {M : Type 1} → statement M
 write-spec =
@@ -67,9 +67,15 @@ write-spec =
     same-length
     same-length-2
     returns
-    layout-of-requires
-    write-known-requires
+    operand-count-requires
+    write-counted-requires
     same-length-3
     same-length-4
     same-length-5
-    returns-2)
+    returns-2
+    uncounted-layout-requires
+    write-uncounted-requires
+    same-length-6
+    same-length-7
+    same-length-8
+    returns-3)

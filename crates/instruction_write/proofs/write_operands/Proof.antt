@@ -1,5 +1,5 @@
 use Prim.Native.Nat.{_-_}
-use mathlib.Core.Path.{refl, _∙_, ap}
+use mathlib.Core.Path.{refl}
 use native.Mathlib.Omega.{arith}
 use Rattle.format.specs.Dwords.{dwordsOf}
 use Rattle.format.proofs.Dwords.{length-dwords}
@@ -7,9 +7,6 @@ use Rattle.instruction_write.proofs.Looping.{Doing, begin, turn-of, tur
 use borrow.Author.Needs.{needs}
 use Rattle.instruction_write.proofs.write_operands.Statement.{statement}
 use Rattle.instruction_write.proofs.write_operands.Tie as tie
-use Rattle.instruction_write.proofs.write_operands.Reads as reads
-use Rattle.instruction_write.proofs.write_operands.Lts as lts
-use Rattle.operand_write.proofs.write.Reads as write-reads
 
 abbrev Inv-loop : tie.InvT-loop
 Inv-loop part from count operands₀ words₀ row word k₀ s₀ d₀ i₀ operands words k s d i = Doing (dwordsOf part) from count row word operands₀ words₀ operands words i k s d

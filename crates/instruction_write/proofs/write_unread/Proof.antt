@@ -1,18 +1,9 @@
-use Prim.Native.Nat.{_-_}
-use mathlib.Core.Path.{refl, _∙_, ap}
-use native.Mathlib.Omega.{arith}
+use mathlib.Core.Path.{refl}
 use Rattle.format.specs.Dwords.{dwordsOf}
-use Rattle.format.proofs.Dwords.{length-dwords}
-use Rattle.instruction_write.proofs.Rowed.{chain-slice, chain-places, chain-rises, row-is, unread-put}
+use Rattle.instruction_write.proofs.Rowed.{unread-put}
 use borrow.Author.Needs.{needs}
 use Rattle.instruction_write.proofs.write_unread.Statement.{statement}
 use Rattle.instruction_write.proofs.write_unread.Tie as tie
-use Rattle.instruction_write.proofs.write_unread.Reads as reads
-use Rattle.instruction_write.proofs.write_unread.Lts as lts
-use Rattle.instruction_write.proofs.put_row.Reads as put-row-reads
-use Rattle.instruction_write.proofs.unread_row.Reads as unread-row-reads
-use Rattle.operand_write.proofs.copy.Reads as copy-reads
-use Rattle.tokens.proofs.dwords.Reads as dwords-reads
 
 -- src/lib.rt:212:9
 dwords-requires : tie.Need-dwords-requires

@@ -40,12 +40,6 @@ form-requires c κs = search needs
 selection-requires : tie.Need-selection-requires
 selection-requires c κs = search needs
 
-placed-requires : tie.Need-placed-requires
-placed-requires c κs = search needs
-
-cast-t17 : tie.Need-cast-t17
-cast-t17 c = search needs
-
 dimension-requires : tie.Need-dimension-requires
 dimension-requires c κs = search needs
 
@@ -55,14 +49,20 @@ reprs-requires c κs = search needs
 own-requires : tie.Need-own-requires
 own-requires c κs = search needs
 
+placed-requires : tie.Need-placed-requires
+placed-requires c κs = search needs
+
+own-requires-2 : tie.Need-own-requires-2
+own-requires-2 c κs = search needs
+
 add-placed : tie.Need-add-placed
 add-placed c = search needs
 
 placed-requires-2 : tie.Need-placed-requires-2
 placed-requires-2 c κs = search needs
 
-own-requires-2 : tie.Need-own-requires-2
-own-requires-2 c κs = search needs
+own-requires-3 : tie.Need-own-requires-3
+own-requires-3 c κs = search needs
 
 add-placed-2 : tie.Need-add-placed-2
 add-placed-2 c = search needs
@@ -70,8 +70,8 @@ add-placed-2 c = search needs
 placed-requires-3 : tie.Need-placed-requires-3
 placed-requires-3 c κs = search needs
 
-own-requires-3 : tie.Need-own-requires-3
-own-requires-3 c κs = search needs
+nests-requires : tie.Need-nests-requires
+nests-requires c κs = search needs
 
 add-placed-3 : tie.Need-add-placed-3
 add-placed-3 c = search needs
@@ -79,8 +79,8 @@ add-placed-3 c = search needs
 placed-requires-4 : tie.Need-placed-requires-4
 placed-requires-4 c κs = search needs
 
-nests-requires : tie.Need-nests-requires
-nests-requires c κs = search needs
+nests-requires-2 : tie.Need-nests-requires-2
+nests-requires-2 c κs = search needs
 
 add-placed-4 : tie.Need-add-placed-4
 add-placed-4 c = search needs
@@ -88,8 +88,8 @@ add-placed-4 c = search needs
 placed-requires-5 : tie.Need-placed-requires-5
 placed-requires-5 c κs = search needs
 
-nests-requires-2 : tie.Need-nests-requires-2
-nests-requires-2 c κs = search needs
+nests-requires-3 : tie.Need-nests-requires-3
+nests-requires-3 c κs = search needs
 
 add-placed-5 : tie.Need-add-placed-5
 add-placed-5 c = search needs
@@ -97,33 +97,23 @@ add-placed-5 c = search needs
 placed-requires-6 : tie.Need-placed-requires-6
 placed-requires-6 c κs = search needs
 
-nests-requires-3 : tie.Need-nests-requires-3
-nests-requires-3 c κs = search needs
+cast-t36 : tie.Need-cast-t36
+cast-t36 c = omega (arith, c .before .before .before .before .before .before .before .before .before .before .before .before .before .before .before .before .before .before .before .before .before .before .before .before .before .pre)
 
-add-placed-6 : tie.Need-add-placed-6
-add-placed-6 c = omega (arith, c .before .before .before .before .before .before .before .before .before .before .before .before .before .before .before .before .before .before .before .before .before .before .before .before .pre)
-
-placed-requires-7 : tie.Need-placed-requires-7
-placed-requires-7 c κs = omega (arith, c .before .before .before .before .before .before .before .before .before .before .before .before .before .before .before .before .before .before .before .before .before .before .before .before .pre)
-
-cast-t41 : tie.Need-cast-t41
-cast-t41 c = omega (arith, c .before .before .before .before .before .before .before .before .before .before .before .before .before .before .before .before .before .before .before .before .before .before .before .before .before .before .pre)
-
-cast-t42 : tie.Need-cast-t42
-cast-t42 c = omega (arith, c .before .before .before .before .before .before .before .before .before .before .before .before .before .before .before .before .before .before .before .before .before .before .before .before .before .before .before .pre)
+cast-t37 : tie.Need-cast-t37
+cast-t37 c = omega (arith, c .before .before .before .before .before .before .before .before .before .before .before .before .before .before .before .before .before .before .before .before .before .before .before .before .before .before .pre)
 
 returns : tie.Need-returns
 unfolding rowFor
-returns c = let a = c .before .before .before .before .before .before .before .before .before .before .before .before .before .before .before .before .before .before .before .before .before .before .before .before .before .before .before .args in
+returns c = let a = c .before .before .before .before .before .before .before .before .before .before .before .before .before .before .before .before .before .before .before .before .before .before .before .before .before .before .args in
     λ i.
-    c .before .before .before .before .before .before .before .before .before .before .before .before .before .before .before .before .before .before .before .before .before .before .before .type-of .ensures i ∷ c .before .before .before .before .before .before .before .before .before .before .before .before .before .before .before .before .before .before .before .before .before .before .form .ensures i ∷ c .before .before .before .before .before .before .before .before .before .before .before .before .before .before .before .before .before .before .before .before .before .selection .ensures i ∷ a .modifiers ∷
-    c .before .before .before .before .before .before .before .before .before .before .before .before .before .before .before .before .before .before .before .before .placed .ensures i ∷ a .m ∷ c .before .before .before .before .before .before .before .before .before .before .before .before .before .before .before .before .before .before .before .dimension .ensures i ∷ c .before .before .before .before .before .before .before .before .before .before .before .before .before .before .before .before .before .before .reprs .ensures i ∷
-    (c .before .before .before .before .before .before .before .before .before .before .before .before .before .before .before .before .placed2 .ensures ∙ ap (λ (n : ℕ). placed (ltb 0 n) (a .word + a .m)) (c .before .before .before .before .before .before .before .before .before .before .before .before .before .before .before .before .before .own .ensures ∙ ap own (c .before .before .before .before .before .before .before .before .before .before .before .before .before .before .before .before .before .before .before .before .before .before .before .before .before .before .repr .ensures))) i ∷
-    (c .before .before .before .before .before .before .before .before .before .before .before .before .before .placed3 .ensures ∙ ap (λ (n : ℕ). placed (ltb 0 n) (a .word + a .a .words)) (c .before .before .before .before .before .before .before .before .before .before .before .before .before .before .before .own2 .ensures ∙ ap own (c .before .before .before .before .before .before .before .before .before .before .before .before .before .before .before .before .before .before .before .before .before .before .before .before .before .repr2 .ensures))) i ∷
-    (c .before .before .before .before .before .before .before .before .before .before .placed4 .ensures ∙ ap (λ (n : ℕ). placed (ltb 0 n) (a .word + a .b .words)) (c .before .before .before .before .before .before .before .before .before .before .before .before .own3 .ensures ∙ ap own (c .before .before .before .before .before .before .before .before .before .before .before .before .before .before .before .before .before .before .before .before .before .before .before .before .repr3 .ensures))) i ∷
-    (c .before .before .before .before .before .before .before .before .placed5 .ensures ∙ ap (λ (b : Bool). placed b (a .row + 1)) (c .before .before .before .before .before .before .before .before .before .nests .ensures ∙ ap nests (c .before .before .before .before .before .before .before .before .before .before .before .before .before .before .before .before .before .before .before .before .before .before .before .before .before .before .repr .ensures))) i ∷
-    (c .before .before .before .before .before .placed6 .ensures ∙ ap (λ (b : Bool). placed b (a .row + a .a .rows)) (c .before .before .before .before .before .before .before .nests2 .ensures ∙ ap nests (c .before .before .before .before .before .before .before .before .before .before .before .before .before .before .before .before .before .before .before .before .before .before .before .before .before .repr2 .ensures))) i ∷
-    (c .before .before .placed7 .ensures ∙ ap (λ (b : Bool). placed b (a .row + a .b .rows)) (c .before .before .before .before .nests3 .ensures ∙ ap nests (c .before .before .before .before .before .before .before .before .before .before .before .before .before .before .before .before .before .before .before .before .before .before .before .before .repr3 .ensures))) i ∷
+    c .before .before .before .before .before .before .before .before .before .before .before .before .before .before .before .before .before .before .before .before .before .before .type-of .ensures i ∷ c .before .before .before .before .before .before .before .before .before .before .before .before .before .before .before .before .before .before .before .before .before .form .ensures i ∷ c .before .before .before .before .before .before .before .before .before .before .before .before .before .before .before .before .before .before .before .before .selection .ensures i ∷ a .modifiers ∷ 0 ∷ 0 ∷ c .before .before .before .before .before .before .before .before .before .before .before .before .before .before .before .before .before .before .before .dimension .ensures i ∷ c .before .before .before .before .before .before .before .before .before .before .before .before .before .before .before .before .before .before .reprs .ensures i ∷
+    (c .before .before .before .before .before .before .before .before .before .before .before .before .before .before .before .before .placed .ensures ∙ ap (λ (n : ℕ). placed (ltb 0 n) (a .word)) (c .before .before .before .before .before .before .before .before .before .before .before .before .before .before .before .before .before .own .ensures ∙ ap own (c .before .before .before .before .before .before .before .before .before .before .before .before .before .before .before .before .before .before .before .before .before .before .before .before .before .repr .ensures))) i ∷
+    (c .before .before .before .before .before .before .before .before .before .before .before .before .before .placed2 .ensures ∙ ap (λ (n : ℕ). placed (ltb 0 n) (a .word + a .a .words)) (c .before .before .before .before .before .before .before .before .before .before .before .before .before .before .before .own2 .ensures ∙ ap own (c .before .before .before .before .before .before .before .before .before .before .before .before .before .before .before .before .before .before .before .before .before .before .before .before .repr2 .ensures))) i ∷
+    (c .before .before .before .before .before .before .before .before .before .before .placed3 .ensures ∙ ap (λ (n : ℕ). placed (ltb 0 n) (a .word + a .b .words)) (c .before .before .before .before .before .before .before .before .before .before .before .before .own3 .ensures ∙ ap own (c .before .before .before .before .before .before .before .before .before .before .before .before .before .before .before .before .before .before .before .before .before .before .before .repr3 .ensures))) i ∷
+    (c .before .before .before .before .before .before .before .before .placed4 .ensures ∙ ap (λ (b : Bool). placed b (a .row + 1)) (c .before .before .before .before .before .before .before .before .before .nests .ensures ∙ ap nests (c .before .before .before .before .before .before .before .before .before .before .before .before .before .before .before .before .before .before .before .before .before .before .before .before .before .repr .ensures))) i ∷
+    (c .before .before .before .before .before .placed5 .ensures ∙ ap (λ (b : Bool). placed b (a .row + a .a .rows)) (c .before .before .before .before .before .before .before .nests2 .ensures ∙ ap nests (c .before .before .before .before .before .before .before .before .before .before .before .before .before .before .before .before .before .before .before .before .before .before .before .before .repr2 .ensures))) i ∷
+    (c .before .before .placed6 .ensures ∙ ap (λ (b : Bool). placed b (a .row + a .b .rows)) (c .before .before .before .before .nests3 .ensures ∙ ap nests (c .before .before .before .before .before .before .before .before .before .before .before .before .before .before .before .before .before .before .before .before .before .before .before .repr3 .ensures))) i ∷
     a .c .rows ∷ a .c .dwords ∷ []
 
 pub make-row-spec : {M : Type 1} → statement M
@@ -136,28 +126,25 @@ make-row-spec =
     type-of-requires
     form-requires
     selection-requires
-    placed-requires
-    cast-t17
     dimension-requires
     reprs-requires
     own-requires
+    placed-requires
+    own-requires-2
     add-placed
     placed-requires-2
-    own-requires-2
+    own-requires-3
     add-placed-2
     placed-requires-3
-    own-requires-3
+    nests-requires
     add-placed-3
     placed-requires-4
-    nests-requires
+    nests-requires-2
     add-placed-4
     placed-requires-5
-    nests-requires-2
+    nests-requires-3
     add-placed-5
     placed-requires-6
-    nests-requires-3
-    add-placed-6
-    placed-requires-7
-    cast-t41
-    cast-t42
+    cast-t36
+    cast-t37
     returns)
