@@ -170,11 +170,14 @@ pub fn long(t: u32) -> bool
     one_of(code(t), 145, 146) && follows(t)
 }
 
-// Whether the next dword is the length.
+// Whether the next dword is the length. Most codes are below 145, and need one comparison more.
 pub fn sized(t: u32) -> bool
     ensures { λ r. ⌜ r ≡ f.sized t ⌝ }
 {
-    code(t) == 53 || long(t)
+    if code(t) < 145 {
+        return code(t) == 53;
+    }
+    long(t)
 }
 
 // The length in dwords of the instruction at a place; 0 where the dword that has it is missing.
