@@ -7,6 +7,7 @@ use lib.ListN.{length, take, drop, replicate, length-append}
 use lib.Seq.{length-take-le}
 use native.Mathlib.Omega.{arith}
 use borrow.Author.Tests.{lt-ltb, le-ltb}
+use Rattle.tokens.proofs.Places.{first-whole, first-short}
 use Rattle.format.specs.Dwords.{Got, malformed, got, then, dword, some, noneLeft}
 use Rattle.format.specs.Declarations.{Item, d, small, s, tail, list}
 use Rattle.format.specs.Operands as op
@@ -52,18 +53,6 @@ pub add-zero : (a : Sum) → add 0 0 true a ≡ a
 add-zero off = refl
 add-zero (sum r w e) = let x : 0 + r ≡ r = omega arith in let y : 0 + w ≡ w = omega arith in λ i. sum (x i) (y i) e
 
-some-whole : (n : ℕ) (ds : List ℕ) → n ≤ length ds → some n ds ≡ got (take n ds) (drop n ds)
-unfolding some
-some-whole zero ds h = refl
-some-whole (suc n) [] h = impossible (omega arith)
-some-whole (suc n) (x ∷ ds) h = rw (some-whole n ds (omega arith))
-
-some-short : (n : ℕ) (ds : List ℕ) → length ds < n → some n ds ≡ malformed
-unfolding some
-some-short zero ds h = impossible (omega arith)
-some-short (suc n) [] h = refl
-some-short (suc n) (x ∷ ds) h = rw (some-short n ds (omega arith))
-
 pub plain-step : (m : Bool) (i : Item) (l : List Item) (ds x r : List ℕ) → readItem m i ds ≡ got (plain x none) r → sumOf m (i ∷ l) ds ≡ add 0 (length x) true (sumOf m l r)
 plain-step m i l ds x r e = item-step m i l ds (plain x none) r e ∙ plain-add x (sumOf m l r)
 
@@ -105,11 +94,11 @@ module _ (m : Bool) (l : List Item) (x : ℕ) (ds : List ℕ) where
   -- a dword and as many more as its low bits say
   pub list-whole : (b : ℕ) → x % 2 ^ b ≤ length ds → sumOf m (list b ∷ l) (x ∷ ds) ≡ add 0 (1 + x % 2 ^ b) true (sumOf m l (drop (x % 2 ^ b) ds))
   list-whole b h =
-      plain-step m (list b) l (x ∷ ds) (x ∷ take (x % 2 ^ b) ds) (drop (x % 2 ^ b) ds) (unfold readItem dword in rw (some-whole (x % 2 ^ b) ds h)) ∙
+      plain-step m (list b) l (x ∷ ds) (x ∷ take (x % 2 ^ b) ds) (drop (x % 2 ^ b) ds) (unfold readItem dword in rw (first-whole (x % 2 ^ b) ds h)) ∙
       ap (λ (n : ℕ). add 0 n true (sumOf m l (drop (x % 2 ^ b) ds))) (let e = length-take-le (x % 2 ^ b) ds h in omega (arith, e))
 
   pub list-short : (b : ℕ) → length ds < x % 2 ^ b → sumOf m (list b ∷ l) (x ∷ ds) ≡ off
-  list-short b h = item-off m (list b) l (x ∷ ds) (unfold readItem dword in rw (some-short (x % 2 ^ b) ds h))
+  list-short b h = item-off m (list b) l (x ∷ ds) (unfold readItem dword in rw (first-short (x % 2 ^ b) ds h))
 
 pub small-none : (m : Bool) (l : List Item) → sumOf m (small ∷ l) [] ≡ off
 small-none m l = item-off m small l [] (unfold readItem dword in refl)

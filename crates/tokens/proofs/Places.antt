@@ -22,26 +22,27 @@ dword-end [] (suc at) h = refl
 dword-end (x ∷ ds) zero h = impossible (omega arith)
 dword-end (x ∷ ds) (suc at) h = dword-end ds at (omega arith)
 
-whole : (n : ℕ) (ds : List ℕ) → n ≤ length ds → some n ds ≡ got (take n ds) (drop n ds)
+-- the first n dwords
+pub first-whole : (n : ℕ) (ds : List ℕ) → n ≤ length ds → some n ds ≡ got (take n ds) (drop n ds)
 unfolding some
-whole zero ds h = refl
-whole (suc n) [] h = impossible (omega arith)
-whole (suc n) (x ∷ ds) h = rw (whole n ds (omega arith))
+first-whole zero ds h = refl
+first-whole (suc n) [] h = impossible (omega arith)
+first-whole (suc n) (x ∷ ds) h = rw (first-whole n ds (omega arith))
 
-short : (n : ℕ) (ds : List ℕ) → length ds < n → some n ds ≡ malformed
+pub first-short : (n : ℕ) (ds : List ℕ) → length ds < n → some n ds ≡ malformed
 unfolding some
-short zero ds h = impossible (omega arith)
-short (suc n) [] h = refl
-short (suc n) (x ∷ ds) h = rw (short n ds (omega arith))
+first-short zero ds h = impossible (omega arith)
+first-short (suc n) [] h = refl
+first-short (suc n) (x ∷ ds) h = rw (first-short n ds (omega arith))
 
 pub some-whole : (n : ℕ) (ds : List ℕ) (at : ℕ) → at + n ≤ length ds → some n (drop at ds) ≡ got (take n (drop at ds)) (drop (at + n) ds)
-some-whole n ds at h = rw (whole n (drop at ds) (simp length-drop (omega arith)), drop-drop n at ds)
+some-whole n ds at h = rw (first-whole n (drop at ds) (simp length-drop (omega arith)), drop-drop n at ds)
 
 pub some-length : (n : ℕ) (ds : List ℕ) (at : ℕ) → at + n ≤ length ds → length (take n (drop at ds)) ≡ n
 some-length n ds at h = length-take-le n (drop at ds) (simp length-drop (omega arith))
 
 pub some-short : (n : ℕ) (ds : List ℕ) (at : ℕ) → at ≤ length ds → length ds < at + n → some n (drop at ds) ≡ malformed
-some-short n ds at k h = short n (drop at ds) (simp length-drop (omega arith))
+some-short n ds at k h = first-short n (drop at ds) (simp length-drop (omega arith))
 
 -- what was read, with what is left, makes up the dwords from a place on
 module _ (ds x r : List ℕ) (at : ℕ) (e : x ++ r ≡ drop at ds) where
