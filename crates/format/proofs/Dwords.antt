@@ -3,7 +3,7 @@ use Prim.Native.Nat.{ℕ, zero, suc, _+_, _*_, _/_, _%_, _^_, _<_}
 use mathlib.Core.Path.{_≡_, refl, sym, ap}
 use mathlib.Core.List.{List, [], _∷_, _++_}
 use mathlib.Core.Bool.{Bool, true, false, cond, _&&_}
-use lib.ListN.{length}
+use lib.ListN.{length, getD}
 use lib.Pow.{shr-shr}
 use native.Mathlib.Nat.{mod-add-div}
 use native.Mathlib.Omega.{arith}
@@ -44,6 +44,11 @@ length-dwords (a ∷ []) = refl
 length-dwords (a ∷ b ∷ []) = refl
 length-dwords (a ∷ b ∷ c ∷ []) = refl
 length-dwords (a ∷ b ∷ c ∷ d ∷ l) = omega (arith, length-dwords l)
+
+pub length-bytes : (l : List ℕ) → length (bytesOf l) ≡ 4 * length l
+unfolding bytesOf
+length-bytes [] = refl
+length-bytes (t ∷ l) = omega (arith, length-bytes l)
 
 -- whatever is read has a property
 pub data All {A : Type 0} (P : A → List ℕ → Type 0) : Got A → Type 0 where
@@ -102,3 +107,15 @@ chain-linked true (x ∷ ds) = all-then (chain-linked (follows x) ds) (λ l r e.
 -- the bits of a number from a on: n of them, and those above
 pub bits-above : (t a n : ℕ) → t / 2 ^ a ≡ bitsFrom a n t + 2 ^ n * (t / 2 ^ (a + n))
 bits-above t a n = sym (rw (shr-shr t a n) at (mod-add-div (t / 2 ^ a) (2 ^ n)))
+
+-- dwords of 32 bits are those of their bytes
+dword-sum : (t a b c d x y z n : ℕ) → a + 2 ^ 8 * x ≡ t → x ≡ b + 2 ^ 8 * y → y ≡ c + 2 ^ 8 * z → z ≡ d + 2 ^ 8 * n → n ≡ 0 → dwordOf a b c d ≡ t
+dword-sum t a b c d x y z n ex ey ez en h = omega arith
+
+dword-bytes : (t : ℕ) → t < 2 ^ 32 → dwordOf (t % 2 ^ 8) (t / 2 ^ 8 % 2 ^ 8) (t / 2 ^ 16 % 2 ^ 8) (t / 2 ^ 24 % 2 ^ 8) ≡ t
+dword-bytes t h = dword-sum t _ _ _ _ (t / 2 ^ 8) (t / 2 ^ 16) (t / 2 ^ 24) (t / 2 ^ 32) (mod-add-div t (2 ^ 8)) (bits-above t 8 8) (bits-above t 16 8) (bits-above t 24 8) (omega arith)
+
+pub dwords-bytes : (l : List ℕ) → ((i : ℕ) → i < length l → getD l i 0 < 2 ^ 32) → dwordsOf (bytesOf l) ≡ l
+unfolding bytesOf dwordsOf
+dwords-bytes [] f = refl
+dwords-bytes (t ∷ l) f = rw (dword-bytes t (f 0 (omega arith)), dwords-bytes l (λ i h. f (suc i) (omega arith)))

@@ -3,7 +3,7 @@ use Prim.Native.Nat.{ℕ, zero, suc, _*_, _/_, _-_, _≤_, _<_}
 use mathlib.Core.Path.{_≡_, refl, sym, ap, _∙_, subst}
 use mathlib.Core.List.{List, [], _∷_}
 use mathlib.Core.Logic.{_↔_}
-use mathlib.Core.Option.{none}
+use mathlib.Core.Option.{Option, none, some}
 use mathlib.Core.Bool.{Bool, true, false, cond, _||_}
 use lib.ListN.{length, take, drop, replicate, length-take, length-replicate}
 use lib.Seq.{take-at, length-take-le}
@@ -18,18 +18,18 @@ use Rattle.format.specs.Dwords.{Bytes, bytesOf}
 use Rattle.format.specs.Instructions.{Instruction}
 use Rattle.format.specs.Rows.{instructionRows, partsRows, partsWords, partsTable, allParts}
 use Rattle.format.specs.Refusals.{Outcome, refused, accepted, SHEX, readChunk, decode, answer, after, poolsAfter, Rows, told, reading, header, room, Pools}
-use Rattle.format.specs.Encoder.{pastPool, held, chunkOf, made, same, gives, Gives, Encoding, unencoded, encoded, encode}
+use Rattle.format.specs.Encoder.{pastPool, held, chunkOf, made, same, gives, Gives, Encoding, unencoded, encoded, chunkGiving, into, encode}
 use Rattle.format.proofs.Dwords.{impossible, both}
 use Rattle.format.proofs.Rows.{rows-length, parts-length}
 use Rattle.format.proofs.Refusals.{Chunk, chunk-accepted, chunk-restores, decode-accepted, header-SHEX, unless-accepted}
 use Rattle.format.proofs.Remade.{reads-again}
 
-same-refl : (l : List ℕ) → same l l ≡ true
+pub same-refl : (l : List ℕ) → same l l ≡ true
 unfolding same
 same-refl [] = refl
 same-refl (x ∷ l) = rw (eq-eqb x x refl) (same-refl l)
 
-same-eq : (k l : List ℕ) → same k l ≡ true → k ≡ l
+pub same-eq : (k l : List ℕ) → same k l ≡ true → k ≡ l
 unfolding same
 same-eq [] [] e = refl
 same-eq [] (y ∷ l) e = impossible (cc)
@@ -72,7 +72,7 @@ pub record Given (e : ℕ) (q : Rows) (chunk : List ℕ) : Type 0 where
   pub operands : partsRows (allParts list) ≡ q .operands
   pub words : length (partsWords (allParts list)) ≡ q .words
 
-held-after : (v : ℕ) (l : List Instruction) (p : Pools) → held (reading (accepted v l) p) ≡ rowsOf l
+pub held-after : (v : ℕ) (l : List Instruction) (p : Pools) → held (reading (accepted v l) p) ≡ rowsOf l
 unfolding held reading answer poolsAfter after
 held-after v l p = λ i. record {
   instructions = take-at (instructionRows 8 0 0 l) (drop (length (instructionRows 8 0 0 l)) (p .instructions)) (16 * length l) (rows-length 8 0 0 l) i;
@@ -93,7 +93,7 @@ given {e} {q} {chunk} g =
       words = r .words;
     }
 
-read-SHEX : (e four : ℕ) (chunk : List ℕ) {v : ℕ} {l : List Instruction} → readChunk e four chunk ≡ accepted v l → readChunk e SHEX chunk ≡ accepted v l
+pub read-SHEX : (e four : ℕ) (chunk : List ℕ) {v : ℕ} {l : List Instruction} → readChunk e four chunk ≡ accepted v l → readChunk e SHEX chunk ≡ accepted v l
 unfolding readChunk
 read-SHEX e four chunk h = let u = unless-accepted (header e four chunk) h in rw (header-SHEX e four chunk (u .0)) (u .1)
 
@@ -105,7 +105,7 @@ module _ {e : ℕ} {q : Rows} {chunk : List ℕ} (y : Bytes chunk) (g : Given e 
   abbrev c : Chunk e (g .four) chunk (q .version) (g .list)
   c = chunk-accepted e (g .four) chunk (g .read)
 
-  not-past : pastPool q ≡ false
+  pub not-past : pastPool q ≡ false
   unfolding pastPool held
   not-past = rw (
     taken (16 * q .instructions) (q .pools .instructions) _ (ap (λ (p : Pools). p .instructions) (g .rows)) (rows-length 8 0 0 (g .list) ∙ ap (λ (n : ℕ). 16 * n) (g .instructions)),
@@ -123,12 +123,16 @@ module _ {e : ℕ} {q : Rows} {chunk : List ℕ} (y : Bytes chunk) (g : Given e 
   unfolding gives
   confirmed = rw (read-SHEX e (g .four) chunk (g .read), g .rows, eq-eqb (q .version) (q .version) refl, same-refl (instructionRows 8 0 0 (g .list)), same-refl (partsTable 0 0 (allParts (g .list))), same-refl (partsWords (allParts (g .list))))
 
+  pub chunk-given : chunkGiving e q ≡ some chunk
+  unfolding chunkGiving
+  chunk-given = rw (made-again, not-past, confirmed)
+
   pub encode-given : (size : ℕ) → encode e q size ≡ cond (ltb size (length chunk)) (unencoded OutputShort) (encoded chunk)
   unfolding encode
-  encode-given size = rw (made-again, le-ltb 3 e (c .passes .known), not-past, confirmed)
+  encode-given size = rw (le-ltb 3 e (c .passes .known), chunk-given)
 
 -- what it accepts is read, into pools with enough room, to those rows
-bytes-of : (l : List ℕ) → Bytes (bytesOf l)
+pub bytes-of : (l : List ℕ) → Bytes (bytesOf l)
 unfolding bytesOf
 bytes-of [] i h = impossible (omega arith)
 bytes-of (t ∷ l) zero h = omega arith
@@ -170,16 +174,16 @@ gives-same q (accepted v l) e =
     let w = same-eq (partsWords (allParts l)) (held q .words) (b₁ .1) in
     record { list = l; is = ap (λ (k : ℕ). accepted k l) (eqb-true v (q .version) (b₃ .0)); rows = λ k. record { instructions = sym i k; operands = sym o k; words = sym w k } }
 
-record Counts (q : Rows) : Type 0 where
-  instructions : length (held q .instructions) ≡ 16 * q .instructions
-  operands : length (held q .operands) ≡ 16 * q .operands
-  words : length (held q .words) ≡ q .words
+pub record Counts (q : Rows) : Type 0 where
+  pub instructions : length (held q .instructions) ≡ 16 * q .instructions
+  pub operands : length (held q .operands) ≡ 16 * q .operands
+  pub words : length (held q .words) ≡ q .words
 
 or-none : (a b : Bool) → (a || b) ≡ false → (a ≡ false) × (b ≡ false)
 or-none true b e = impossible (cc)
 or-none false b e = (refl, e)
 
-counts : (q : Rows) → pastPool q ≡ false → Counts q
+pub counts : (q : Rows) → pastPool q ≡ false → Counts q
 unfolding pastPool held
 counts q e =
     let a = or-none _ (ltb (length (q .pools .words)) (q .words)) e in
@@ -212,19 +216,31 @@ pub data Case (e : ℕ) (q : Rows) (size : ℕ) : Encoding → Type 0 where
   no-reading : Case e q size (unencoded NoReading)
   a-chunk : {chunk : List ℕ} → Gives e q chunk → Case e q size (cond (ltb size (length chunk)) (unencoded OutputShort) (encoded chunk))
 
-pub encode-case : (e : ℕ) (q : Rows) (size : ℕ) → Case e q size (encode e q size)
-unfolding encode
-encode-case e q size = go (ltb 3 e) refl (pastPool q) refl (gives (q .version) (held q) (readChunk e SHEX b)) refl
+-- a chunk that gives the rows, or none is found
+pub data Found (e : ℕ) (q : Rows) : Option (List ℕ) → Type 0 where
+  not-found : Found e q none
+  found : {chunk : List ℕ} → Gives e q chunk → Found e q (some chunk)
+
+pub chunk-found : (e : ℕ) (q : Rows) → Found e q (chunkGiving e q)
+unfolding chunkGiving
+chunk-found e q = go (pastPool q) refl (gives (q .version) (held q) (readChunk e SHEX b)) refl
   where
     b : List ℕ
     b = made (q .version) (held q)
 
-    go : (x : Bool) → ltb 3 e ≡ x → (y : Bool) → pastPool q ≡ y → (z : Bool) → gives (q .version) (held q) (readChunk e SHEX b) ≡ z →
-        Case e q size (cond x (unencoded Edition) (cond y (unencoded NoReading) (cond z (cond (ltb size (length b)) (unencoded OutputShort) (encoded b)) (unencoded NoReading))))
-    go true ex y ey z ez = no-edition (ltb-true 3 e ex)
-    go false ex true ey z ez = no-reading
-    go false ex false ey false ez = no-reading
-    go false ex false ey true ez = a-chunk (same-gives e q b (unfold made chunkOf in bytes-of _) ey (gives-same q (readChunk e SHEX b) ez))
+    go : (y : Bool) → pastPool q ≡ y → (z : Bool) → gives (q .version) (held q) (readChunk e SHEX b) ≡ z → Found e q (cond y none (cond z (some b) none))
+    go true ey z ez = not-found
+    go false ey false ez = not-found
+    go false ey true ez = found (same-gives e q b (unfold made chunkOf in bytes-of _) ey (gives-same q (readChunk e SHEX b) ez))
+
+pub encode-case : (e : ℕ) (q : Rows) (size : ℕ) → Case e q size (encode e q size)
+unfolding encode
+encode-case e q size = go (ltb 3 e) refl (chunk-found e q)
+  where
+    go : (x : Bool) → ltb 3 e ≡ x → {f : Option (List ℕ)} → Found e q f → Case e q size (cond x (unencoded Edition) (into size f))
+    go true ex f = no-edition (ltb-true 3 e ex)
+    go false ex not-found = no-reading
+    go false ex (found g) = a-chunk g
 
 -- so 15 is given exactly when no chunk gives the rows
 cond-not-15 : (b : Bool) (chunk : List ℕ) → cond b (unencoded OutputShort) (encoded chunk) ≡ unencoded NoReading → ⊥

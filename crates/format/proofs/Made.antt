@@ -29,7 +29,7 @@ parts a b c x y z =
     let q : (a + b * 4 + c * 16) / 4 ≡ b + c * 4 = omega arith in
     (omega arith, omega arith, rw q (omega arith))
 
-extension-of : (n : ℕ) → 0 < n → extensionOf n ≡ op.extensionWith (n % 4) (n / 16) (n / 4 % 2) ∷ []
+pub extension-of : (n : ℕ) → 0 < n → extensionOf n ≡ op.extensionWith (n % 4) (n / 16) (n / 4 % 2) ∷ []
 unfolding extensionOf
 extension-of zero h = impossible (omega arith)
 extension-of (suc n) h = refl
@@ -49,11 +49,11 @@ follows-length t e f end h = let n : bits 31 31 t ≡ 1 → ⊥ = eqb-false (bit
 follows-length t e f (link {x = x} {l = []} q) h = omega (arith, eqb-true (bits 31 31 t) 1 f)
 follows-length t e f (link {x = x} {l = y ∷ l} q) h = impossible (cc)
 
-dword-again : (r w t : ℕ) (e m : List ℕ) (a b c : Tree) → Linked (follows t) e → op.exactExtension e ≡ true → op.exactDword t ≡ true → operandDword (operandRow r w t e m a b c) ≡ t
+pub dword-again : (r w t : ℕ) (e m : List ℕ) (a b c : Tree) → Linked (follows t) e → op.exactExtension e ≡ true → op.exactDword t ≡ true → operandDword (operandRow r w t e m a b c) ≡ t
 unfolding operandDword operandRow op.exactDword
 dword-again r w t e m a b c k h x = rw (extension-again e h, follows-length t e refl k h) (sym (eqb-true t _ x))
 
-row-extension : (r w t : ℕ) (e m : List ℕ) (a b c : Tree) → op.exactExtension e ≡ true → extensionOf (at 3 (operandRow r w t e m a b c)) ≡ e
+pub row-extension : (r w t : ℕ) (e m : List ℕ) (a b c : Tree) → op.exactExtension e ≡ true → extensionOf (at 3 (operandRow r w t e m a b c)) ≡ e
 unfolding operandRow
 row-extension r w t e m a b c h = extension-again e h
 
@@ -61,10 +61,10 @@ row-extension r w t e m a b c h = extension-again e h
 abbrev pub Again : Maker → Tree → Type 0
 Again q x = op.exact x ≡ true → (r w : ℕ) (R W : List ℕ) → q (treeTable r w x ++ R) (treeWords x ++ W) ≡ these (op.dwords x) R W
 
-flat3 : (x y z r : List ℕ) → (x ++ y ++ z) ++ r ≡ x ++ (y ++ (z ++ r))
+pub flat3 : (x y z r : List ℕ) → (x ++ y ++ z) ++ r ≡ x ++ (y ++ (z ++ r))
 flat3 x y z r = simp append-assoc
 
-flat4 : (q x y z r : List ℕ) → (q ++ x ++ y ++ z) ++ r ≡ q ++ ((x ++ y ++ z) ++ r)
+pub flat4 : (q x y z r : List ℕ) → (q ++ x ++ y ++ z) ++ r ≡ q ++ ((x ++ y ++ z) ++ r)
 flat4 q x y z r = simp append-assoc
 
 module _ (p : Reader Tree) (q : Maker) (hp : (ds : List ℕ) → All (λ x r. Again q x) (p ds)) where
@@ -85,14 +85,14 @@ module _ (p : Reader Tree) (q : Maker) (hp : (ds : List ℕ) → All (λ x r. Ag
       met (index-step i x c (e₁ .1) f))))
       (λ k. unmet)
 
-record Exact (t : ℕ) (e : List ℕ) (a b c : Tree) : Type 0 where
-  token : op.exactDword t ≡ true
-  extension : op.exactExtension e ≡ true
-  first : op.exact a ≡ true
-  second : op.exact b ≡ true
-  third : op.exact c ≡ true
+pub record Exact (t : ℕ) (e : List ℕ) (a b c : Tree) : Type 0 where
+  pub token : op.exactDword t ≡ true
+  pub extension : op.exactExtension e ≡ true
+  pub first : op.exact a ≡ true
+  pub second : op.exact b ≡ true
+  pub third : op.exact c ≡ true
 
-exact-node : (t : ℕ) (e m : List ℕ) (a b c : Tree) → op.exact (node t e m a b c) ≡ true → Exact t e a b c
+pub exact-node : (t : ℕ) (e m : List ℕ) (a b c : Tree) → op.exact (node t e m a b c) ≡ true → Exact t e a b c
 unfolding op.exact
 exact-node t e m a b c h =
     let h₁ = both _ (op.exact c) h in
@@ -118,7 +118,7 @@ operand-step k t e m a b c ch f h r w R W =
     rw (flat4 q _ _ _ R, take-at q _ 16 (operand-row-length r w t e m a b c), drop-at q _ 16 (operand-row-length r w t e m a b c), dword-again r w t e m a b c ch (x .extension) (x .token), row-extension r w t e m a b c (x .extension), f h _ _ _ _ _ _ R W)
     (ap (λ (l : List ℕ). these (t ∷ l) R W) (spread e m (op.dwords a) (op.dwords b) (op.dwords c)))
 
-nils : (m : List ℕ) → m ++ [] ++ [] ++ [] ≡ m
+pub nils : (m : List ℕ) → m ++ [] ++ [] ++ [] ≡ m
 nils m = simp append-nil
 
 immediates-rest : (k t : ℕ) (m : List ℕ) → op.immediate t ≡ true → length m ≡ op.immediates t → Rest k t m none none none
@@ -176,7 +176,7 @@ pub nil-of : (l : List ℕ) → length l ≤ 0 → l ≡ []
 nil-of [] h = refl
 nil-of (x ∷ l) h = impossible (omega arith)
 
-no-words : (ps : List Tree) (left : List ℕ) → op.partsDwords ps ++ left ≡ [] → partsWords ps ≡ []
+pub no-words : (ps : List Tree) (left : List ℕ) → op.partsDwords ps ++ left ≡ [] → partsWords ps ≡ []
 no-words ps left e = nil-of (partsWords ps) (omega (arith, parts-fit ps, ap length e, length-append (op.partsDwords ps) left))
 
 parts-step : (m : Bool) (i : Item) (l : List Item) (x : Tree) (ps : List Tree) (left left₁ : List ℕ) → ItemAgain (makeItem m i) x left → PartsAgain m l ps → op.partsDwords ps ++ left₁ ≡ left → PartsAgain m (i ∷ l) (x ∷ ps)

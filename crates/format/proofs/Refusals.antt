@@ -105,7 +105,7 @@ fails p l e = go (p .0) e
     go true e = impossible (cc)
     go false e = (refl, e)
 
-nth-fails : (n : ℕ) (l : List (Bool × Refusal)) → firstOf l ≡ none → getD (map (λ (p : Bool × Refusal). p .0) l) n false ≡ false
+pub nth-fails : (n : ℕ) (l : List (Bool × Refusal)) → firstOf l ≡ none → getD (map (λ (p : Bool × Refusal). p .0) l) n false ≡ false
 nth-fails n [] e = refl
 nth-fails zero (p ∷ l) e = fails p l e .0
 nth-fails (suc n) (p ∷ l) e = nth-fails n l (fails p l e .1)

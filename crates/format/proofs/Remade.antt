@@ -87,11 +87,11 @@ pub kind-positive : (c : ℕ) → eqb (layout c .kind) 0 ≡ false
 kind-positive c = every-kind (λ k. eqb k 0 ≡ false) refl refl refl refl refl c
 
 -- ---- what stands after a token
-record Head (x : Layout) (t : ℕ) (e : List ℕ) : Type 0 where
-  one : sized t ≡ true → length e ≡ 1
-  linked : sized t ≡ false → Linked (chained x && follows t) e
+pub record Head (x : Layout) (t : ℕ) (e : List ℕ) : Type 0 where
+  pub one : sized t ≡ true → length e ≡ 1
+  pub linked : sized t ≡ false → Linked (chained x && follows t) e
 
-head-fact : (x : Layout) (t : ℕ) (ds : List ℕ) → All (λ e r. Head x t e) (readHead x t ds)
+pub head-fact : (x : Layout) (t : ℕ) (ds : List ℕ) → All (λ e r. Head x t e) (readHead x t ds)
 unfolding readHead
 head-fact x t ds = all-if (sized t) _ _ ds
     (λ z. all-weaken (λ e r l. record { one = λ y. l .1; linked = λ y. impossible (cc) }) (some-length 1 ds))
@@ -101,7 +101,7 @@ unlinked : {b : Bool} {e : List ℕ} → Linked b e → b ≡ false → e ≡ []
 unlinked end z = refl
 unlinked (link k) z = impossible (cc)
 
-one-dword : (e after : List ℕ) → length e ≡ 1 → getD (e ++ after) 0 0 ∷ [] ≡ e
+pub one-dword : (e after : List ℕ) → length e ≡ 1 → getD (e ++ after) 0 0 ∷ [] ≡ e
 one-dword [] after h = impossible (omega arith)
 one-dword (x ∷ []) after h = refl
 one-dword (x ∷ y ∷ e) after h = impossible (omega arith)
@@ -161,7 +161,7 @@ module _ (at₀ r w t : ℕ) (e : List ℕ) (ps : List Tree) where
       go true n = refl
       go false n = n
 
-  row-token : (after : List ℕ) → Head x t e → length (dwords (pieces t e ps)) ≡ lengthOf t after → eqb t (tokenWith (code t) (fieldsOf x t)) ≡ true → tokenOfRow q ≡ t
+  pub row-token : (after : List ℕ) → Head x t e → length (dwords (pieces t e ps)) ≡ lengthOf t after → eqb t (tokenWith (code t) (fieldsOf x t)) ≡ true → tokenOfRow q ≡ t
   unfolding tokenOfRow fieldsOf instructionRow
   row-token after h n k = rw (row-size after n, row-extended h) (sym (eqb-true t _ k))
 
@@ -174,7 +174,7 @@ module _ (at₀ r w t : ℕ) (e : List ℕ) (ps : List Tree) where
       go true l k = rw (unsized-short t z, add-zero (typeBits e)) (chain-again l k)
       go false l k = sym (unlinked l refl)
 
-  row-head : (after : List ℕ) → Head x t e → length (dwords (pieces t e ps)) ≡ lengthOf t (e ++ after) → rising 0 (extensions x e) ≡ true → headOfRow q ≡ e
+  pub row-head : (after : List ℕ) → Head x t e → length (dwords (pieces t e ps)) ≡ lengthOf t (e ++ after) → rising 0 (extensions x e) ≡ true → headOfRow q ≡ e
   unfolding headOfRow lengthOf
   row-head after h n k = rw row-sized (go (sized t) refl n)
     where
@@ -195,7 +195,7 @@ pub record Exact (t : ℕ) (e : List ℕ) (ps : List Tree) : Type 0 where
   pub chain : rising 0 (extensions (layout (code t)) e) ≡ true
   pub parts : op.exactParts ps ≡ true
 
-exact-pieces : (t : ℕ) (e : List ℕ) (ps : List Tree) → exactPieces (layout (code t)) t e ps ≡ true → Exact t e ps
+pub exact-pieces : (t : ℕ) (e : List ℕ) (ps : List Tree) → exactPieces (layout (code t)) t e ps ≡ true → Exact t e ps
 unfolding exactPieces
 exact-pieces t e ps h =
     let h₁ = both _ (op.exactParts ps) h in
@@ -204,7 +204,7 @@ exact-pieces t e ps h =
     let h₄ = both (eqb t (tokenWith (code t) (fieldsOf (layout (code t)) t))) (rising 0 (extensions (layout (code t)) e)) (h₃ .0) in
     record { token = h₄ .0; chain = h₄ .1; parts = h₁ .1 }
 
-row-kind : (at₀ r w t : ℕ) (e : List ℕ) (ps : List Tree) → (at 3 (q at₀ r w t e ps) ≡ layout (code t) .kind) × (at 2 (q at₀ r w t e ps) ≡ code t)
+pub row-kind : (at₀ r w t : ℕ) (e : List ℕ) (ps : List Tree) → (at 3 (q at₀ r w t e ps) ≡ layout (code t) .kind) × (at 2 (q at₀ r w t e ps) ≡ code t)
 unfolding instructionRow
 row-kind at₀ r w t e ps = (refl, refl)
 

@@ -31,18 +31,18 @@ pub data Fit : List ℕ → Type 0 where
   empty : Fit []
   also : (x : ℕ) {l : List ℕ} → x < 2 ^ 32 → Fit l → Fit (x ∷ l)
 
-fit-append : {x y : List ℕ} → Fit x → Fit y → Fit (x ++ y)
+pub fit-append : {x y : List ℕ} → Fit x → Fit y → Fit (x ++ y)
 fit-append empty g = g
 fit-append (also x h f) g = also x h (fit-append f g)
 
-fit-front : (x y : List ℕ) → Fit (x ++ y) → Fit x
+pub fit-front : (x y : List ℕ) → Fit (x ++ y) → Fit x
 fit-front [] y f = empty
 fit-front (a ∷ x) y f = go f (fit-front x y)
   where
     go : Fit (a ∷ (x ++ y)) → (Fit (x ++ y) → Fit x) → Fit (a ∷ x)
     go (also x h f) k = also x h (k f)
 
-fit-back : (x y : List ℕ) → Fit (x ++ y) → Fit y
+pub fit-back : (x y : List ℕ) → Fit (x ++ y) → Fit y
 fit-back [] y f = f
 fit-back (a ∷ x) y f = fit-back x y (go f)
   where
@@ -67,7 +67,7 @@ fit-dwords (x ∷ y ∷ z ∷ w ∷ l) b =
     let hw : w < 256 = b 3 (omega arith) in
     also (dwordOf x y z w) (omega arith) (fit-dwords l (λ i h. b (suc (suc (suc (suc i)))) (omega arith)))
 
-fit-drop : (n : ℕ) {l : List ℕ} → Fit l → Fit (drop n l)
+pub fit-drop : (n : ℕ) {l : List ℕ} → Fit l → Fit (drop n l)
 fit-drop zero f = f
 fit-drop (suc n) empty = empty
 fit-drop (suc n) (also x h f) = fit-drop n f

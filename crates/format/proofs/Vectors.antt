@@ -153,7 +153,7 @@ moves version counted unused = record {
 }
 
 unfoldable pub encoding : ℕ → Rows → ℕ → Encoding
-unfolding reading encode encoder.extensionOf encoder.operandDword encoder.makeIndex encoder.makeRest encoder.makeOperand encoder.makeItem encoder.makeItems encoder.chainOf encoder.sizedRow encoder.tokenOfRow encoder.headOfRow encoder.makeInstruction encoder.makeAll encoder.pastPool encoder.held encoder.chunkOf encoder.made encoder.same encoder.gives
+unfolding reading encode encoder.extensionOf encoder.operandDword encoder.makeIndex encoder.makeRest encoder.makeOperand encoder.makeItem encoder.makeItems encoder.chainOf encoder.sizedRow encoder.tokenOfRow encoder.headOfRow encoder.makeInstruction encoder.makeAll encoder.pastPool encoder.held encoder.chunkOf encoder.made encoder.same encoder.gives encoder.chunkGiving
 encoding e q size = encode e q size
 
 abbrev pub refusals : List Refusal → List Encoding

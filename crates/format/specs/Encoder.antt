@@ -1,5 +1,5 @@
 -- The encoder: from a version token, counts, rows and words to the chunk; 1, 15, 16; what the output holds afterwards.
-use Rattle.format.specs.Basis.{ℕ, zero, suc, _+_, _*_, _/_, _%_, _^_, _≡_, List, [], _∷_, _++_, Bool, true, false, cond, _&&_, _||_, length, getD, take, drop, eqb, ltb}
+use Rattle.format.specs.Basis.{ℕ, zero, suc, _+_, _*_, _/_, _%_, _^_, _≡_, List, [], _∷_, _++_, Option, none, some, Bool, true, false, cond, _&&_, _||_, length, getD, take, drop, eqb, ltb}
 use Rattle.format.specs.declared.Refusal.{Refusal}
 use Rattle.format.specs.declared.Refusal.the-variants.{Edition, NoReading, OutputShort}
 use Rattle.format.specs.declared.Answer.the-variants.{Accepted}
@@ -152,13 +152,20 @@ pub data Encoding : Type 0 where
   unencoded : Refusal → Encoding
   encoded : List ℕ → Encoding
 
--- 1; 15, counts past a pool included, unless the chunk made from the rows is read at that edition to them; 16, by the output's size
-unfoldable pub encode : ℕ → Rows → ℕ → Encoding
-encode edition q size =
+-- the chunk that gives these rows at an edition, if there is one: the chunk made from them, if it is read to them
+unfoldable pub chunkGiving : ℕ → Rows → Option (List ℕ)
+chunkGiving edition q =
     let b = made (q .version) (held q) in
-    cond (ltb 3 edition) (unencoded Edition)
-    (cond (pastPool q) (unencoded NoReading)
-    (cond (gives (q .version) (held q) (readChunk edition SHEX b)) (cond (ltb size (length b)) (unencoded OutputShort) (encoded b)) (unencoded NoReading)))
+    cond (pastPool q) none (cond (gives (q .version) (held q) (readChunk edition SHEX b)) (some b) none)
+
+-- 15 without a chunk; 16, by the output's size
+abbrev pub into : ℕ → Option (List ℕ) → Encoding
+into size none = unencoded NoReading
+into size (some b) = cond (ltb size (length b)) (unencoded OutputShort) (encoded b)
+
+-- 1; then 15, counts past a pool included; then 16
+unfoldable pub encode : ℕ → Rows → ℕ → Encoding
+encode edition q size = cond (ltb 3 edition) (unencoded Edition) (into size (chunkGiving edition q))
 
 -- the answer: the chunk's size
 unfoldable pub encodeAnswer : Encoding → Encoded

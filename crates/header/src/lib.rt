@@ -69,7 +69,7 @@ pub fn is_model51(version: u32) -> bool
 }
 
 // Checks 6 to 9, of the size and the first two dwords.
-fn decode_version(size: usize, version: u32, second: u32) -> Checked
+pub fn decode_version(size: usize, version: u32, second: u32) -> Checked
     ensures { λ r. ⌜ r ≡ versionOf size version second ⌝ }
 {
     if version / 256 % 256 != 0 {

@@ -105,7 +105,7 @@ fn past_small(part: &[u8], at: usize, small: u32) -> Place
 }
 
 // How many more dwords a list's first dword says, in its low 16 bits or in all.
-fn list_length(x: u32, bits: u32) -> u32
+pub fn list_length(x: u32, bits: u32) -> u32
     requires { ⌜ Bits bits ⌝ }
     ensures { λ r. ⌜ r ≡ x % 2 ^ bits ⌝ }
 {
@@ -135,7 +135,7 @@ fn past_list(part: &[u8], at: usize, bits: u32) -> Place
 }
 
 // The dwords that follow in model 5.1 alone.
-fn extra(s: Shape, model51: bool) -> u32
+pub fn extra(s: Shape, model51: bool) -> u32
     ensures { λ r. ⌜ r ≡ cond model51 (s .extra) 0 ⌝ }
 {
     if model51 { s.extra } else { 0 }
@@ -355,7 +355,7 @@ fn parts_of(part: &[u8], at: usize, s: Shape, model51: bool) -> Body
 }
 
 // A token is its code and its fields, and has no other bits.
-fn exact_token(t: u32, f: Fields) -> bool
+pub fn exact_token(t: u32, f: Fields) -> bool
     ensures { λ r. ⌜ r ≡ eqb t (ct.tokenWith (code t) (fieldsIn f)) ⌝ }
 {
     let low = far(t % 2048) + far(f.field) * 0x800 + far(f.saturate) * 0x2000;
@@ -405,7 +405,7 @@ fn rising(part: &[u8], from: usize, to: usize) -> bool
 }
 
 // Custom data of class 3 has a multiple of 4 dwords after its two.
-fn exact_class(kind: u32, t: u32, n: usize) -> bool
+pub fn exact_class(kind: u32, t: u32, n: usize) -> bool
     ensures { λ r. ⌜ r ≡ classed kind t n ⌝ }
 {
     if kind != 5 {

@@ -1,2 +1,3 @@
 mod Telling
 mod Unique
+pub mod Restored

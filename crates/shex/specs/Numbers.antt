@@ -1,12 +1,17 @@
--- A reader's answer in numbers.
-use Rattle.format.specs.Basis.{ℕ, _≡_, List}
+-- What the two calls answer, in numbers.
+use Rattle.format.specs.Basis.{ℕ, _≡_, List, length}
+use Rattle.format.specs.declared.Encoded.{Encoded}
+use Rattle.format.specs.declared.Encoded.the-variants.{Written, Unwritten}
+use Rattle.format.specs.Encoder.{encode, encodeAnswer, outputAfter}
 use Rattle.format.specs.Refusals.{number, place, answer, decode, poolsAfter}
 use Rattle.format.specs.declared.Answer.{Answer}
 use Rattle.format.specs.declared.Answer.the-variants.{Accepted, Refused}
 use Rattle.decode.specs.Decode.{lent}
+use Rattle.reading.specs.Walks as rows
 use Rattle.shex.specs.declared.Reading.{Reading}
+use Rattle.shex.specs.declared.Writing.{Writing}
 
--- 0 for an accepted chunk, whose place is 0; the counts of a refusal are 0
+-- a reading: 0 for an accepted chunk, whose place is 0; the counts of a refusal are 0
 abbrev pub inNumbers : Answer → Reading
 inNumbers (Accepted v i o w) = record { number = 0; place = 0; version = v; instructions = i; operands = o; words = w }
 inNumbers (Refused r) = record { number = number r; place = place r; version = 0; instructions = 0; operands = 0; words = 0 }
@@ -17,3 +22,13 @@ pub record Read (edition four : ℕ) (chunk is os ws : List ℕ) (r : Reading) (
   pub instructions : is′ ≡ poolsAfter (decode edition four chunk (lent is os ws)) (lent is os ws) .instructions
   pub operands : os′ ≡ poolsAfter (decode edition four chunk (lent is os ws)) (lent is os ws) .operands
   pub words : ws′ ≡ poolsAfter (decode edition four chunk (lent is os ws)) (lent is os ws) .words
+
+-- a writing: 0 and the chunk's size; the size of a refusal is 0
+abbrev pub sizeInNumbers : Encoded → Writing
+sizeInNumbers (Written n) = record { number = 0; size = n }
+sizeInNumbers (Unwritten r) = record { number = number r; size = 0 }
+
+-- what encoding rows tells, and what it leaves in the output
+pub record Wrote (edition version i o w : ℕ) (is os ws out : List ℕ) (r : Writing) (out′ : List ℕ) : Type 0 where
+  pub told : r ≡ sizeInNumbers (encodeAnswer (encode edition (rows.lent version i o w is os ws) (length out)))
+  pub output : out′ ≡ outputAfter (encode edition (rows.lent version i o w is os ws) (length out)) out

@@ -1,6 +1,7 @@
-// What a program in another language calls: the reader, its answer in numbers.
-ghost use Rattle.shex.specs.Numbers.{Read};
+// What a program in another language calls: the reader and the encoder, their answers in numbers.
+ghost use Rattle.shex.specs.Numbers.{Read, Wrote};
 use format::Answer;
+use format::Encoded;
 
 // A reading in numbers: 0 and the version token with the three counts; or a refusal's number and place, and counts of 0.
 #[repr(C)]
@@ -46,6 +47,47 @@ pub extern "C" fn shex_decode(
             instructions: 0,
             operands: 0,
             words: 0,
+        },
+    }
+}
+
+// A writing in numbers: 0 and the chunk's size in bytes; or a refusal's number and a size of 0.
+#[repr(C)]
+pub struct Writing {
+    pub number: u32,
+    pub size: u32,
+}
+
+// Encodes a version token, so many rows and words at an edition into the output.
+#[no_mangle]
+pub extern "C" fn shex_encode(
+    edition: u32,
+    version: u32,
+    instructions: &[u32],
+    instruction_count: u32,
+    operands: &[u32],
+    operand_count: u32,
+    words: &[u32],
+    word_count: u32,
+    output: &mut [u8],
+) -> Writing
+    ensures { λ r. ⌜ Wrote edition version «instruction_count» «operand_count» «word_count» (now (instructions .entry)) (now (operands .entry)) (now (words .entry)) (now (output .entry)) r (now (output .exit)) ⌝ }
+{
+    match encode::encode(
+        edition,
+        version,
+        instructions,
+        instruction_count,
+        operands,
+        operand_count,
+        words,
+        word_count,
+        output,
+    ) {
+        Encoded::Written { size } => Writing { number: 0, size },
+        Encoded::Unwritten(r) => Writing {
+            number: answers::number(r),
+            size: 0,
         },
     }
 }

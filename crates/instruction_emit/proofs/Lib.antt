@@ -1,0 +1,4 @@
+pub mod Items
+pub mod Opened
+pub mod Heads
+pub mod Emitting

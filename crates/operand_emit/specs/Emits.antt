@@ -1,0 +1,66 @@
+-- What is written of an operand whose rows and words were confirmed: the bytes of its dwords.
+use Prim.Native.Nat.{ℕ, _+_, _-_, _*_, _^_, _<_, _≤_}
+use mathlib.Core.Path.{_≡_}
+use mathlib.Core.List.{List, _∷_, _++_}
+use mathlib.Core.Option.{Option, none as nothing, some as just}
+use lib.ListN.{length, take, drop}
+use Rattle.format.specs.Dwords.{bytesOf}
+use Rattle.format.specs.Operands.{Tree, none, dwords}
+use Rattle.format.specs.Rows.{treeRows, treeWords}
+use Rattle.format.specs.Encoder.{at, extensionOf, operandDword}
+use Rattle.operand_emit.specs.declared.Ends.{Ends}
+
+-- bytes in a list from a place on, over what was there
+unfoldable pub put : ℕ → List ℕ → List ℕ → List ℕ
+put p b out = take p out ++ b ++ drop (p + length b) out
+
+-- the tree that there is
+abbrev pub treeIn : Option Tree → Tree
+treeIn nothing = none
+treeIn (just x) = x
+
+-- there is a tree, and room for its dwords from a dword on in an output of so many bytes
+pub record Ready (o : Option Tree) (place n : ℕ) : Type 0 where
+  pub tree : Tree
+  pub is : o ≡ just tree
+  pub room : 4 * (place + length (dwords tree)) ≤ n
+
+-- its dwords stand there; what is behind it: a row, a word, and a dword of the output
+pub record Emitted (o : Option Tree) (row word place : ℕ) (out : List ℕ) (ends : Ends) (out′ : List ℕ) : Type 0 where
+  pub output-is : out′ ≡ put (4 * place) (bytesOf (dwords (treeIn o))) out
+  pub row-is : ends .row ≡ row + treeRows (treeIn o)
+  pub word-is : ends .word ≡ word + length (treeWords (treeIn o))
+  pub at-is : ends .at ≡ place + length (dwords (treeIn o))
+
+-- an operand's dword and its extension, from its row
+abbrev pub headOf : List ℕ → List ℕ
+headOf q = operandDword q ∷ extensionOf (at 3 q)
+
+-- dwords stand there, and the next place is behind them
+pub record Headed (l : List ℕ) (place : ℕ) (out : List ℕ) (next : ℕ) (out′ : List ℕ) : Type 0 where
+  pub next-is : next ≡ place + length l
+  pub output-is : out′ ≡ put (4 * place) (bytesOf l) out
+
+-- the numbers of a row whose dword was exact
+pub record Fits (q : List ℕ) : Type 0 where
+  pub form-fits : at 1 q < 5
+  pub modifiers-fit : at 3 q < 2 ^ 7
+  pub dword-fits : operandDword q < 2 ^ 32
+
+-- as many words as the row's dwords leave behind its head
+abbrev pub wordsLeft : List ℕ → ℕ
+wordsLeft q = at 15 q - length (headOf q)
+
+-- a row, words for all of its dwords but the head, and room for them
+pub record Lone (q : List ℕ) (ws word place n : ℕ) : Type 0 where
+  pub fits : Fits q
+  pub head-fits : length (headOf q) ≤ at 15 q
+  pub words-there : wordsLeft q ≤ ws - word
+  pub room : 4 * (place + at 15 q) ≤ n
+
+-- the head and those words stand there
+pub record Stood (q ws : List ℕ) (row word place : ℕ) (out : List ℕ) (ends : Ends) (out′ : List ℕ) : Type 0 where
+  pub output-is : out′ ≡ put (4 * place) (bytesOf (headOf q ++ take (wordsLeft q) (drop word ws))) out
+  pub row-is : ends .row ≡ row + 1
+  pub word-is : ends .word ≡ word + wordsLeft q
+  pub at-is : ends .at ≡ place + at 15 q

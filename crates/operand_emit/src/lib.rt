@@ -1,0 +1,257 @@
+// Writes the dwords of an operand whose rows and words were confirmed.
+ghost use mathlib.Core.Path.{_≡_};
+ghost use mathlib.Core.List.{[], _∷_};
+ghost use Prim.Native.Nat.{ℕ, _+_, _-_, _*_, _/_, _%_, _^_, _<_, _≤_};
+ghost use mathlib.Core.Bool.{_&&_};
+ghost use lib.ListN.{length, getD, take, drop};
+ghost use lib.Dec.{eqb};
+ghost use Rattle.format.specs.Dwords.{bytesOf};
+ghost use Rattle.format.specs.Operands as op;
+ghost use Rattle.format.specs.Encoder as e;
+ghost use Rattle.operand_walk.specs.Confirm as c;
+ghost use Rattle.operand_walk.specs.Walks.{there, rowAt};
+ghost use Rattle.operand_emit.specs.Emits as w;
+
+// The row, the word and the dword of the output behind what was written.
+pub struct Ends {
+    pub row: usize,
+    pub word: usize,
+    pub at: usize,
+}
+
+// Stores a dword's four bytes, the lowest first.
+pub fn put_dword(output: &mut [u8], at: usize, x: u32)
+    requires { ⌜ 4 * (at + 1) ≤ length (now output) ⌝ }
+    ensures { λ _. ⌜ now (output .exit) ≡ w.put (4 * at) (bytesOf (x ∷ [])) (now (output .entry)) ⌝ }
+{
+    let i = 4 * at;
+    output[i] = (x % 0x100) as u8;
+    output[i + 1] = (x / 0x100 % 0x100) as u8;
+    output[i + 2] = (x / 0x1_0000 % 0x100) as u8;
+    output[i + 3] = (x / 0x100_0000 % 0x100) as u8;
+}
+
+// Copies n words from a word on, one after the other.
+fn copy_each(words: &[u32], word: usize, n: usize, output: &mut [u8], at: usize)
+    requires { ⌜ (n ≤ length (now words) - word) × (4 * (at + n) ≤ length (now output)) ⌝ }
+    ensures { λ _. ⌜ now (output .exit) ≡ w.put (4 * at) (bytesOf (take n (drop word (now (words .entry))))) (now (output .entry)) ⌝ }
+{
+    let mut i = 0;
+    while i < n {
+        put_dword(output, at + i, words[word + i]);
+        i += 1;
+    }
+}
+
+// Copies n words from a word on, the first two without a loop: few operands have more.
+pub fn copy(words: &[u32], word: usize, n: usize, output: &mut [u8], at: usize)
+    requires { ⌜ (n ≤ length (now words) - word) × (4 * (at + n) ≤ length (now output)) ⌝ }
+    ensures { λ _. ⌜ now (output .exit) ≡ w.put (4 * at) (bytesOf (take n (drop word (now (words .entry))))) (now (output .entry)) ⌝ }
+{
+    if n == 0 {
+        return;
+    }
+    put_dword(output, at, words[word]);
+    if n == 1 {
+        return;
+    }
+    put_dword(output, at + 1, words[word + 1]);
+    copy_each(words, word + 2, n - 2, output, at + 2);
+}
+
+// Gives bits 0-3 of an operand's dword, by its form.
+fn low(form: u32) -> u32
+    requires { ⌜ form < 5 ⌝ }
+    ensures { λ r. ⌜ r ≡ getD (0 ∷ 1 ∷ 2 ∷ 6 ∷ 10 ∷ []) form 0 ⌝ }
+{
+    if form < 3 { form } else { form * 4 - 6 }
+}
+
+// Makes the extension of some modifiers.
+fn extension(m: u32) -> u32
+    requires { ⌜ m < 2 ^ 7 ⌝ }
+    ensures { λ r. ⌜ r ≡ op.extensionWith (m % 4) (m / 16) (m / 4 % 2) ⌝ }
+{
+    1 + m % 4 * 0x40 + m / 16 * 0x4000 + m / 4 % 2 * 0x2_0000
+}
+
+// Makes an operand's dword from the numbers of its row.
+fn pack(form: u32, selection: u32, kind: u32, dimension: u32, reprs: u32, modifiers: u32) -> u32
+    requires { ⌜ (form < 5) × (op.dwordWith form selection kind dimension reprs (length (e.extensionOf modifiers)) < 2 ^ 32) ⌝ }
+    ensures { λ r. ⌜ r ≡ op.dwordWith form selection kind dimension reprs (length (e.extensionOf modifiers)) ⌝ }
+{
+    let t = (((reprs * 4 + dimension) * 0x100 + kind) * 0x100 + selection) * 0x10 + low(form);
+    if modifiers == 0 { t } else { t + 0x8000_0000 }
+}
+
+// Makes an operand's dword from the row at a place.
+fn dword(operands: &[u32], o: usize) -> u32
+    requires { ⌜ (o + 16 ≤ length (now operands)) × w.Fits (take 16 (drop o (now operands))) ⌝ }
+    ensures { λ r. ⌜ r ≡ e.operandDword (take 16 (drop o (now (operands .entry)))) ⌝ }
+{
+    pack(
+        operands[o + 1],
+        operands[o + 2],
+        operands[o],
+        operands[o + 6],
+        operands[o + 7],
+        operands[o + 3],
+    )
+}
+
+// Stores an operand's dword and the extension of its modifiers; gives the dword of the output behind them.
+fn head(operands: &[u32], o: usize, output: &mut [u8], at: usize) -> usize
+    requires { ⌜ (o + 16 ≤ length (now operands)) × w.Fits (take 16 (drop o (now operands))) × (4 * (at + length (w.headOf (take 16 (drop o (now operands))))) ≤ length (now output)) ⌝ }
+    ensures { λ r. ⌜ w.Headed (w.headOf (take 16 (drop o (now (operands .entry))))) at (now (output .entry)) r (now (output .exit)) ⌝ }
+{
+    let m = operands[o + 3];
+    put_dword(output, at, dword(operands, o));
+    if m == 0 {
+        return at + 1;
+    }
+    put_dword(output, at + 1, extension(m));
+    at + 2
+}
+
+// Writes an operand with no operand in it: its words stand one behind the other.
+fn lone(
+    operands: &[u32],
+    words: &[u32],
+    row: usize,
+    word: usize,
+    output: &mut [u8],
+    at: usize,
+) -> Ends
+    requires { ⌜ (16 * row + 16 ≤ length (now operands)) × w.Lone (rowAt row (now operands)) (length (now words)) word at (length (now output)) ⌝ }
+    ensures { λ r. ⌜ w.Stood (rowAt row (now (operands .entry))) (now (words .entry)) row word at (now (output .entry)) r (now (output .exit)) ⌝ }
+{
+    let o = 16 * row;
+    let end = at + operands[o + 15] as usize;
+    let from = head(operands, o, output, at);
+    let n = end - from;
+    copy(words, word, n, output, from);
+    Ends {
+        row: row + 1,
+        word: word + n,
+        at: end,
+    }
+}
+
+// Writes an operand with no operand in it and no modifiers. Most have one word.
+fn short(
+    operands: &[u32],
+    words: &[u32],
+    row: usize,
+    word: usize,
+    output: &mut [u8],
+    at: usize,
+) -> Ends
+    requires { ⌜ (16 * row + 16 ≤ length (now operands)) × (e.at 3 (rowAt row (now operands)) ≡ 0) × w.Lone (rowAt row (now operands)) (length (now words)) word at (length (now output)) ⌝ }
+    ensures { λ r. ⌜ w.Stood (rowAt row (now (operands .entry))) (now (words .entry)) row word at (now (output .entry)) r (now (output .exit)) ⌝ }
+{
+    let o = 16 * row;
+    let dwords = operands[o + 15] as usize;
+    let n = dwords - 1;
+    put_dword(output, at, dword(operands, o));
+    if dwords == 2 {
+        put_dword(output, at + 1, words[word]);
+        return Ends {
+            row: row + 1,
+            word: word + 1,
+            at: at + 2,
+        };
+    }
+    copy(words, word, n, output, at + 1);
+    Ends {
+        row: row + 1,
+        word: word + n,
+        at: at + dwords,
+    }
+}
+
+// Writes an index of a representation: words of its own, and the operand that stands in it.
+fn index(
+    operands: &[u32],
+    words: &[u32],
+    from: Ends,
+    r: u32,
+    left: usize,
+    output: &mut [u8],
+) -> Ends
+    requires { ⌜ (0 < left) × w.Ready (there (c.confirmIndex (c.confirm (left - 1)) r) (now operands) (now words) (from .row) (from .word)) (from .at) (length (now output)) ⌝ }
+    ensures { λ s. ⌜ w.Emitted (there (c.confirmIndex (c.confirm (left - 1)) r) (now (operands .entry)) (now (words .entry)) (from .row) (from .word)) (from .row) (from .word) (from .at) (now (output .entry)) s (now (output .exit)) ⌝ }
+{
+    let n = tokens::own(r);
+    copy(words, from.word, n, output, from.at);
+    let word = from.word + n;
+    let at = from.at + n;
+    if tokens::nests(r) {
+        return deep(operands, words, from.row, word, left - 1, output, at);
+    }
+    Ends {
+        row: from.row,
+        word,
+        at,
+    }
+}
+
+// Writes any operand: its head, and its indices one after the other.
+fn deep(
+    operands: &[u32],
+    words: &[u32],
+    row: usize,
+    word: usize,
+    left: usize,
+    output: &mut [u8],
+    at: usize,
+) -> Ends
+    requires { ⌜ w.Ready (there (c.confirm left) (now operands) (now words) row word) at (length (now output)) ⌝ }
+    ensures { λ r. ⌜ w.Emitted (there (c.confirm left) (now (operands .entry)) (now (words .entry)) row word) row word at (now (output .entry)) r (now (output .exit)) ⌝ }
+{
+    let o = 16 * row;
+    if operands[o + 14] == 1 {
+        return lone(operands, words, row, word, output, at);
+    }
+    let t = dword(operands, o);
+    let start = Ends {
+        row: row + 1,
+        word,
+        at: head(operands, o, output, at),
+    };
+    let a = index(operands, words, start, tokens::repr(0, t), left, output);
+    let b = index(operands, words, a, tokens::repr(1, t), left, output);
+    index(operands, words, b, tokens::repr(2, t), left, output)
+}
+
+// Tells whether an operand has no operand in it and no modifiers.
+fn plain(operands: &[u32], o: usize) -> bool
+    requires { ⌜ o + 16 ≤ length (now operands) ⌝ }
+    ensures { λ r. ⌜ r ≡ (eqb (getD (now (operands .entry)) (o + 14) 0) 1 && eqb (getD (now (operands .entry)) (o + 3) 0) 0) ⌝ }
+{
+    operands[o + 14] == 1 && operands[o + 3] == 0
+}
+
+// Writes the operand that was confirmed at a row and a word, from a dword of the output on. Most have neither modifiers
+// nor an operand in them: they go a short way.
+pub fn emit(
+    operands: &[u32],
+    words: &[u32],
+    row: usize,
+    word: usize,
+    left: usize,
+    output: &mut [u8],
+    at: usize,
+) -> Ends
+    requires { ⌜ w.Ready (there (c.confirm left) (now operands) (now words) row word) at (length (now output)) ⌝ }
+    ensures { λ r. ⌜ w.Emitted (there (c.confirm left) (now (operands .entry)) (now (words .entry)) row word) row word at (now (output .entry)) r (now (output .exit)) ⌝ }
+{
+    if plain(operands, 16 * row) {
+        return short(operands, words, row, word, output, at);
+    }
+    let ends = deep(operands, words, row, word, left, output, at);
+    Ends {
+        row: ends.row,
+        word: ends.word,
+        at: ends.at,
+    }
+}

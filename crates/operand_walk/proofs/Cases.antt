@@ -1,0 +1,33 @@
+-- Computed: rows and words of operands, and the same with something changed.
+use Prim.Native.Nat.{ℕ}
+use mathlib.Core.Path.{_≡_, refl}
+use mathlib.Core.List.{List, [], _∷_, _++_}
+use mathlib.Core.Option.{none as nothing, some as just}
+use Rattle.format.specs.Operands as op
+use Rattle.format.specs.Operands.{Tree, none, plain, node}
+use Rattle.format.specs.Rows.{treeWords, treeRows, operandRow}
+use Rattle.format.specs.Encoder.{extensionOf, operandDword, same}
+use Rattle.operand_walk.specs.Confirm.{confirmIndex, confirmed, confirmImmediates, confirmIndices, confirmFront, confirm}
+
+-- a register of one component, whose number is in the word at a place
+abbrev register : ℕ → List ℕ
+register w = 0 ∷ 1 ∷ 0 ∷ 0 ∷ 0 ∷ 0 ∷ 1 ∷ 0 ∷ w ∷ 0 ∷ 0 ∷ 0 ∷ 0 ∷ 0 ∷ 1 ∷ 2 ∷ []
+
+-- one whose number is in the operand at a row
+abbrev relative : ℕ → List ℕ
+relative r = 0 ∷ 1 ∷ 0 ∷ 0 ∷ 0 ∷ 0 ∷ 1 ∷ 2 ∷ 0 ∷ 0 ∷ 0 ∷ r ∷ 0 ∷ 0 ∷ 2 ∷ 3 ∷ []
+
+abbrev register5 : Tree
+register5 = node 0x10_0001 [] [] (plain (5 ∷ []) none) (plain [] none) (plain [] none)
+
+-- as the reader writes them; another word place; no word; no row; a child that is its own parent; a depth too few
+cases :
+    (confirm 1 (register 3) (5 ∷ []) 7 3 ≡ just register5) ×
+    (confirm 1 (register 4) (5 ∷ []) 7 3 ≡ nothing) ×
+    (confirm 1 (register 3) [] 7 3 ≡ nothing) ×
+    (confirm 1 [] (5 ∷ []) 7 3 ≡ nothing) ×
+    (confirm 2 (relative 8 ++ register 3) (5 ∷ []) 7 3 ≡ just (node 0x90_0001 [] [] (plain [] register5) (plain [] none) (plain [] none))) ×
+    (confirm 2 (relative 7 ++ register 3) (5 ∷ []) 7 3 ≡ nothing) ×
+    (confirm 1 (relative 8 ++ register 3) (5 ∷ []) 7 3 ≡ nothing)
+unfolding confirm confirmFront confirmIndices confirmImmediates confirmIndex confirmed same operandDword extensionOf operandRow treeRows treeWords op.dwords op.exactDword op.exactExtension op.modifiers op.immediate op.form op.selection op.reprs op.repr op.own op.nests op.known
+cases = (refl, refl, refl, refl, refl, refl, refl)

@@ -1,0 +1,66 @@
+use Prim.Native.Nat.{_-_, _/_}
+use lib.ListN.{length}
+use native.Mathlib.Omega.{arith}
+use borrow.Author.Needs.{needs}
+use Rattle.reading.specs.Confirm.{confirmAll}
+use Rattle.reading.specs.Walks.{dwordsFrom, Walking}
+use Rattle.reading.proofs.Walks.{begin, from-here, to-whole, went-on, went-off, rows-left, words-left, all-told}
+use Rattle.reading.proofs.walk_all.Statement.{statement}
+use Rattle.reading.proofs.walk_all.Tie as tie
+
+abbrev Inv-loop : tie.InvT-loop
+Inv-loop instructions operands words ceiling model51 n s₀ s = Walking ceiling model51 instructions operands words s (dwordsFrom 2 (confirmAll ceiling model51 (length instructions / 16) 8 instructions operands words 0 0))
+
+abbrev μ-loop : tie.MeasureT-loop
+μ-loop instructions operands words ceiling model51 n s₀ s = length instructions / 16 - s .instruction
+
+loop-holds : tie.Need-loop-holds Inv-loop μ-loop
+loop-holds c = begin _ _ _ _ _
+
+next-requires : tie.Need-next-requires Inv-loop μ-loop
+next-requires c κs = (c .if1 .taken, (c .before .before .before .before .before .before .pre), from-here (c .before .before .loop .inv))
+
+enum-known-t : tie.Need-enum-known-t Inv-loop μ-loop
+enum-known-t c = search needs
+
+loop-less : tie.Need-loop-less Inv-loop μ-loop
+loop-less c = omega (arith, went-on (to-whole (c .before .before .before .before .before .before .loop .inv) (c .before .before .before .next .ensures)) (c .before .t .given .1) .0, c .before .before .before .before .if1 .taken)
+
+loop-again : tie.Need-loop-again Inv-loop μ-loop
+loop-again c = went-on (to-whole (c .before .before .before .before .before .before .loop .inv) (c .before .before .before .next .ensures)) (c .before .t .given .1) .1
+
+enum-told : tie.Need-enum-told Inv-loop μ-loop
+enum-told c = search needs
+
+returns : tie.Need-returns Inv-loop μ-loop
+returns c = went-off (to-whole (c .before .before .before .before .before .loop .inv) (c .before .before .next .ensures)) (c .enum-told .given .1)
+
+mul-if2 : tie.Need-mul-if2 Inv-loop μ-loop
+mul-if2 c = omega (arith, c .before .before .before .loop .inv .row-within, c .before .before .before .before .before .before .before .good)
+
+returns-2 : tie.Need-returns-2 Inv-loop μ-loop
+returns-2 c = rows-left (c .before .before .before .before .loop .inv) (omega (arith, c .before .before .if1 .left)) (omega (arith, c .if2 .taken))
+
+returns-3 : tie.Need-returns-3 Inv-loop μ-loop
+returns-3 c = words-left (c .before .before .before .before .before .before .loop .inv) (omega (arith, c .before .before .before .before .if1 .left)) (omega (arith, c .before .before .if2 .left)) (omega (arith, c .if3 .taken))
+
+returns-4 : tie.Need-returns-4 Inv-loop μ-loop
+returns-4 c = all-told (c .before .before .before .before .before .before .loop .inv) (omega (arith, c .before .before .before .before .if1 .left)) (omega (arith, c .before .before .if2 .left)) (omega (arith, c .if3 .left))
+
+pub walk-all-spec : {M : Type 1} → statement M
+walk-all-spec =
+    tie.close
+    (tie.spec
+    Inv-loop
+    μ-loop
+    loop-holds
+    next-requires
+    enum-known-t
+    loop-less
+    loop-again
+    enum-told
+    returns
+    mul-if2
+    returns-2
+    returns-3
+    returns-4)
