@@ -1,6 +1,6 @@
-// The file of cases that programs run, data/cases, which crates/cases/make writes from cases.txt. It is dwords, the lowest byte first, and
-// begins with the number of cases. A case is a head of 14 dwords, the chunk's bytes up to a whole dword, the entries of the three pools that
-// an accepted chunk uses, and the questions, of 9 dwords each.
+// The file of cases that programs run, data/cases. That of crates/cases is written by its make from cases.txt, that of crates/replay by the
+// oracle. It is dwords, the lowest byte first, and begins with the number of cases. A case is a head of 14 dwords, the chunk's bytes up to
+// a whole dword, the entries of the three pools that an accepted chunk uses, and the questions, of 9 dwords each.
 ghost use mathlib.Core.Path.{_≡_};
 ghost use lib.ListN.{length};
 use format::Answer;

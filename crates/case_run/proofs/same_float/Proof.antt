@@ -4,8 +4,8 @@ use mathlib.Core.Path.{sym, subst}
 use mathlib.Core.Bool.{Bool, not}
 use lib.Dec.{T}
 use Rattle.rows.proofs.Nans.{no-nan}
-use Rattle.cases.proofs.same_float.Statement.{statement}
-use Rattle.cases.proofs.same_float.Tie as tie
+use Rattle.case_run.proofs.same_float.Statement.{statement}
+use Rattle.case_run.proofs.same_float.Tie as tie
 
 returns : tie.Need-returns
 returns c = search needs

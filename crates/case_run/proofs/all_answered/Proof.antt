@@ -1,13 +1,13 @@
--- `all` is safe and ends: it runs each case once.
+-- `all_answered` is safe and ends: it asks each question once.
 use borrow.Author.Needs.{needs}
-use Rattle.cases.proofs.all.Statement.{statement}
-use Rattle.cases.proofs.all.Tie as tie
+use Rattle.case_run.proofs.all_answered.Statement.{statement}
+use Rattle.case_run.proofs.all_answered.Tie as tie
 
 abbrev Inv-loop : tie.InvT-loop
-Inv-loop fd cases left₀ right₀ left right = Unit {0}
+Inv-loop fd n instructions words left₀ right₀ left right = Unit {0}
 
 abbrev μ-loop : tie.MeasureT-loop
-μ-loop fd cases left₀ right₀ left right = left
+μ-loop fd n instructions words left₀ right₀ left right = left
 
 loop-holds : tie.Need-loop-holds Inv-loop μ-loop
 loop-holds c = search needs
@@ -15,11 +15,8 @@ loop-holds c = search needs
 sub-left : tie.Need-sub-left Inv-loop μ-loop
 sub-left c = search needs
 
-one-requires : tie.Need-one-requires Inv-loop μ-loop
-one-requires c κs = search needs
-
-wrapping-add-u64-requires : tie.Need-wrapping-add-u64-requires Inv-loop μ-loop
-wrapping-add-u64-requires c κs = search needs
+next-answered-requires : tie.Need-next-answered-requires Inv-loop μ-loop
+next-answered-requires c κs = search needs
 
 loop-less : tie.Need-loop-less Inv-loop μ-loop
 loop-less c = search needs
@@ -36,22 +33,17 @@ loop-again-2 c = search needs
 returns : tie.Need-returns Inv-loop μ-loop
 returns c = search needs
 
-returns-2 : tie.Need-returns-2 Inv-loop μ-loop
-returns-2 c = search needs
-
-pub all-spec : {M : Type 1} → statement M
-all-spec =
+pub all-answered-spec : {M : Type 1} → statement M
+all-answered-spec =
     tie.close
     (tie.spec
     Inv-loop
     μ-loop
     loop-holds
     sub-left
-    one-requires
-    wrapping-add-u64-requires
+    next-answered-requires
     loop-less
     loop-again
     loop-less-2
     loop-again-2
-    returns
-    returns-2)
+    returns)

@@ -2,8 +2,8 @@
 use Prim.Native.Nat.{_≤_, _-_}
 use lib.ListN.{length}
 use borrow.Author.Needs.{needs}
-use Rattle.cases.proofs.same_pool.Statement.{statement}
-use Rattle.cases.proofs.same_pool.Tie as tie
+use Rattle.case_run.proofs.same_pool.Statement.{statement}
+use Rattle.case_run.proofs.same_pool.Tie as tie
 
 abbrev Inv-loop : tie.InvT-loop
 Inv-loop pool entries p before₀ i₀ before i = i ≤ length pool
