@@ -1,3 +1,4 @@
 mod Telling
+mod Asking
 mod Unique
 pub mod Restored

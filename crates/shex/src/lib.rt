@@ -1,7 +1,9 @@
-// What a program in another language calls: the reader and the encoder, their answers in numbers.
-ghost use Rattle.shex.specs.Numbers.{Read, Wrote};
+// What a program in another language calls: the reader, the encoder and what it may ask of a row, their answers in numbers.
+ghost use mathlib.Core.Path.{_≡_};
+ghost use Rattle.shex.specs.Numbers.{Read, Wrote, lies, showing, sides, spanAt};
 use format::Answer;
 use format::Encoded;
+use format::Shown;
 
 // A reading in numbers: 0 and the version token with the three counts; or a refusal's number and place, and counts of 0.
 #[repr(C)]
@@ -89,5 +91,94 @@ pub extern "C" fn shex_encode(
             number: answers::number(r),
             size: 0,
         },
+    }
+}
+
+// Where a row's words are in the word pool: the place of the first, and how many they are.
+#[repr(C)]
+pub struct Span {
+    pub start: usize,
+    pub length: usize,
+}
+
+// Where the n words from a on are, or an empty span at 0 where they aren't all in the pool.
+fn span_of(words: &[u32], a: u32, n: u32) -> Span
+    ensures { λ r. ⌜ r ≡ spanAt a n (now (words .entry)) ⌝ }
+{
+    let start = a as usize;
+    let length = n as usize;
+    if start <= words.len() {
+        if length <= words.len() - start {
+            return Span { start, length };
+        }
+    }
+    Span {
+        start: 0,
+        length: 0,
+    }
+}
+
+// Tells where a row's words are; an export can't return the part itself. The span is empty and at 0 for a row number at or past the count,
+// a row outside its pool or a span outside the word pool.
+#[no_mangle]
+pub extern "C" fn shex_words(instructions: &[u32], words: &[u32], row: u32, count: u32) -> Span
+    ensures { λ r. ⌜ r ≡ lies row count (now (instructions .entry)) (now (words .entry)) ⌝ }
+{
+    if row < count {
+        let k = row as usize;
+        if k < instructions.len() / 16 {
+            return span_of(words, instructions[16 * k + 14], instructions[16 * k + 15]);
+        }
+    }
+    Span {
+        start: 0,
+        length: 0,
+    }
+}
+
+// What a row shows, in numbers: 0 for nothing, 1 for a count and 2 for a factor; and the dword that is shown, a factor by its own bits.
+#[repr(C)]
+pub struct Showing {
+    pub kind: u32,
+    pub dword: u32,
+}
+
+// Tells what a row shows.
+#[no_mangle]
+pub extern "C" fn shex_shows(instructions: &[u32], words: &[u32], row: u32, count: u32) -> Showing
+    ensures { λ r. ⌜ r ≡ showing row count (now (instructions .entry)) (now (words .entry)) ⌝ }
+{
+    let part = rows::words_of(instructions, words, row, count);
+    if part.len() != 1 {
+        return Showing { kind: 0, dword: 0 };
+    }
+    match rows::shows(instructions, words, row, count) {
+        Shown::Factor(_) => Showing {
+            kind: 2,
+            dword: part[0],
+        },
+        Shown::Count(x) => Showing { kind: 1, dword: x },
+        Shown::Nothing => Showing { kind: 0, dword: 0 },
+    }
+}
+
+// The texture offsets of a row, from -8 to 7.
+#[repr(C)]
+pub struct Sides {
+    pub u: i8,
+    pub v: i8,
+    pub w: i8,
+}
+
+// Gives u, v and w of a row.
+#[no_mangle]
+pub extern "C" fn shex_offsets(instructions: &[u32], row: u32, count: u32) -> Sides
+    ensures { λ r. ⌜ r ≡ sides row count (now (instructions .entry)) ⌝ }
+{
+    let o = rows::offsets(instructions, row, count);
+    Sides {
+        u: o.u,
+        v: o.v,
+        w: o.w,
     }
 }
