@@ -1,12 +1,12 @@
 -- Instructions whose code has an operand count: what stands behind their token, their parts, and the token itself.
-use Prim.Native.Nat.{ℕ, _+_, _-_, _*_, _/_, _%_, _^_, _<_}
+use Prim.Native.Nat.{ℕ, zero, suc, _+_, _-_, _*_, _/_, _%_, _^_, _<_}
 use mathlib.Core.Path.{_≡_, refl, sym, ap, _∙_}
 use mathlib.Core.List.{List, [], _∷_, _++_}
 use mathlib.Core.Bool.{Bool, true, false, cond, not, _&&_, _||_}
 use mathlib.Core.Option.{none, some}
 use native.Mathlib.Nat.{mod-add-div, mod-one, mul-one}
 use native.Mathlib.Omega.{arith}
-use lib.ListN.{length, getD, drop, replicate}
+use lib.ListN.{length, getD, drop, replicate, length-append, length-replicate}
 use lib.Seq.{slice, slice-empty}
 use lib.Dec.{eqb}
 use borrow.Author.Tests.{eqb-true, eq-eqb}
@@ -16,22 +16,20 @@ use Rattle.format.specs.Counts.{within, numbers, lineOf, operandCount, rising, 
 use Rattle.format.specs.Declarations.{o, tail, Layout, layout, chained, fieldIn, inBounds}
 use Rattle.format.specs.Instructions.{readHead, fault, fieldsOf, extensions}
 use Rattle.format.proofs.Dwords.{impossible, both, bits-above}
-use Rattle.layouts.specs.Shapes.{meant, itemsOf, Laid}
-use Rattle.layouts.specs.declared.Shape.{Shape}
+use Rattle.layouts.specs.Shapes.{meant, itemsOf}
 use Rattle.layouts.specs.Table.{plainShape, widthOf}
 use Rattle.layouts.proofs.Others.{counts}
 use Rattle.layouts.proofs.Fields.{unbounded, value}
 use Rattle.instruction.specs.declared.Operands.{Operands}
 use Rattle.instruction.specs.declared.Operands.the-variants.{Read, Lost}
 use Rattle.instruction.specs.declared.Body.the-variants.{Read as BodyRead, Off as BodyOff}
-use Rattle.instruction.specs.Measure.{add, sumOf, bodyOf, Run, ran, lost, verdict, headed, plainToken, Judged}
-use Rattle.instruction.specs.declared.Verdict.{Verdict}
-use Rattle.instruction.specs.declared.Verdict.the-variants.{Fine, Inexact}
+use Rattle.instruction.specs.Measure.{off, sum, add, sumOf, bodyOf, Run, ran, lost, verdict, headed, clearToken, plainToken, Judged}
+use Rattle.instruction.specs.declared.Verdict.the-variants.{Fine, Miscounted, Inexact}
 use Rattle.tokens.specs.Chains.{ends}
 use Rattle.tokens.specs.declared.Skip.{Skip}
-use Rattle.tokens.specs.declared.Skip.the-variants.{To, Off}
+use Rattle.tokens.specs.declared.Skip.the-variants.{To}
 use Rattle.instruction.proofs.Shaped.{tail-ends}
-use Rattle.instruction.proofs.Verdicts.{Headed, headed-at, head-off, head-lost, parts-off, parts-inexact, head-inexact, all-fine}
+use Rattle.instruction.proofs.Verdicts.{Headed, headed-at, parts-off, parts-inexact, all-fine, count-above}
 
 module _ (c n : ℕ) (h : operandCount c ≡ some n) where
   -- its layout
@@ -103,9 +101,10 @@ module _ (t n : ℕ) (h : operandCount (code t) ≡ some n) where
   -- a plain token is what it should be
   record Clear : Type 0 where
     low : bits 11 12 t ≡ 0
-    mid : bits 14 18 t ≡ 0
+    mid : bits 14 17 t ≡ 0
     high : bits 23 23 t ≡ 0
     top : bits 31 31 t ≡ 0
+    test : (eqb (bits 18 18 t) 0 || within (code t) (3 ∷ 5 ∷ 8 ∷ 13 ∷ 31 ∷ 63 ∷ [])) ≡ true
 
   module _ (plain : plainToken t ≡ true) (small : t < 2 ^ 32) where
     abbrev x : Layout
@@ -113,20 +112,21 @@ module _ (t n : ℕ) (h : operandCount (code t) ≡ some n) where
 
     clear : Clear
     clear =
-        let a = both (eqb (bits 11 12 t) 0 && eqb (bits 14 18 t) 0 && eqb (bits 23 23 t) 0) (eqb (bits 31 31 t) 0) plain in
-        let b = both (eqb (bits 11 12 t) 0 && eqb (bits 14 18 t) 0) (eqb (bits 23 23 t) 0) (a .0) in
-        let c = both (eqb (bits 11 12 t) 0) (eqb (bits 14 18 t) 0) (b .0) in
-        record { low = eqb-true _ _ (c .0); mid = eqb-true _ _ (c .1); high = eqb-true _ _ (b .1); top = eqb-true _ _ (a .1) }
+        let d = both (clearToken t) (eqb (bits 18 18 t) 0 || within (code t) (3 ∷ 5 ∷ 8 ∷ 13 ∷ 31 ∷ 63 ∷ [])) plain in
+        let a = both (eqb (bits 11 12 t) 0 && eqb (bits 14 17 t) 0 && eqb (bits 23 23 t) 0) (eqb (bits 31 31 t) 0) (d .0) in
+        let b = both (eqb (bits 11 12 t) 0 && eqb (bits 14 17 t) 0) (eqb (bits 23 23 t) 0) (a .0) in
+        let c = both (eqb (bits 11 12 t) 0) (eqb (bits 14 17 t) 0) (b .0) in
+        record { low = eqb-true _ _ (c .0); mid = eqb-true _ _ (c .1); high = eqb-true _ _ (b .1); top = eqb-true _ _ (a .1); test = d .1 }
 
-    linear : (f u e y q₁ q₂ q₃ q₄ q₅ q₆ q₇ c₁ c₂ c₃ b p l c : ℕ) → t ≡ c + 2048 * q₁ → q₁ ≡ c₁ + 4 * q₂ → q₂ ≡ b + 2 * q₃ → q₃ ≡ c₂ + 32 * q₄ → q₄ ≡ p + 16 * q₅ → q₅ ≡ c₃ + 2 * q₆ → q₆ ≡ l + 128 * q₇
-        → c₁ ≡ 0 → c₂ ≡ 0 → c₃ ≡ 0 → q₇ ≡ 0 → f * 2048 + u * 8192 ≡ b * 8192 → e ≡ 0 → y ≡ 0 → t ≡ c + f * 2048 + u * 8192 + e * 262144 + p * 524288 + l * 16777216 + y * 2147483648
-    linear f u e y q₁ q₂ q₃ q₄ q₅ q₆ q₇ c₁ c₂ c₃ b p l c h₀ h₁ h₂ h₃ h₄ h₅ h₆ k₁ k₂ k₃ k₇ r w z = omega arith
+    linear : (f u e y q₁ q₂ q₃ q₄ q₅ q₆ q₇ q₈ c₁ c₂ c₃ b v p l c : ℕ) → t ≡ c + 2048 * q₁ → q₁ ≡ c₁ + 4 * q₂ → q₂ ≡ b + 2 * q₃ → q₃ ≡ c₂ + 16 * q₈ → q₈ ≡ v + 2 * q₄ → q₄ ≡ p + 16 * q₅ → q₅ ≡ c₃ + 2 * q₆ → q₆ ≡ l + 128 * q₇
+        → c₁ ≡ 0 → c₂ ≡ 0 → c₃ ≡ 0 → q₇ ≡ 0 → f * 2048 + u * 8192 ≡ b * 8192 → e ≡ v → y ≡ 0 → t ≡ c + f * 2048 + u * 8192 + e * 262144 + p * 524288 + l * 16777216 + y * 2147483648
+    linear f u e y q₁ q₂ q₃ q₄ q₅ q₆ q₇ q₈ c₁ c₂ c₃ b v p l c h₀ h₁ h₂ h₃ h₈ h₄ h₅ h₆ k₁ k₂ k₃ k₇ r w z = omega arith
 
-    sums : (f u e y : ℕ) → f * 2 ^ 11 + u * 2 ^ 13 ≡ bits 13 13 t * 2 ^ 13 → e ≡ 0 → y ≡ 0 → t ≡ code t + f * 2 ^ 11 + u * 2 ^ 13 + e * 2 ^ 18 + bits 19 22 t * 2 ^ 19 + bits 24 30 t * 2 ^ 24 + y * 2 ^ 31
+    sums : (f u e y : ℕ) → f * 2 ^ 11 + u * 2 ^ 13 ≡ bits 13 13 t * 2 ^ 13 → e ≡ bits 18 18 t → y ≡ 0 → t ≡ code t + f * 2 ^ 11 + u * 2 ^ 13 + e * 2 ^ 18 + bits 19 22 t * 2 ^ 19 + bits 24 30 t * 2 ^ 24 + y * 2 ^ 31
     sums f u e y p q r =
         let none : t / 2 ^ 32 ≡ 0 = omega (arith, small) in
         let z : t / 2 ^ 31 ≡ 0 = omega (arith, none, bits-above t 31 1, clear .top) in
-        linear f u e y _ _ _ _ _ _ _ _ _ _ _ _ _ _ (sym (mod-add-div t 2048)) (bits-above t 11 2) (bits-above t 13 1) (bits-above t 14 5) (bits-above t 19 4) (bits-above t 23 1) (bits-above t 24 7) (clear .low) (clear .mid) (clear .high) z p q r
+        linear f u e y _ _ _ _ _ _ _ _ _ _ _ _ _ _ _ _ (sym (mod-add-div t 2048)) (bits-above t 11 2) (bits-above t 13 1) (bits-above t 14 4) (bits-above t 18 1) (bits-above t 19 4) (bits-above t 23 1) (bits-above t 24 7) (clear .low) (clear .mid) (clear .high) z p q r
 
     -- the field and saturate: bit 13, which is the field's for 190
     field-is : (w : ℕ) → widthOf (code t) ≡ w → fieldIn (x .field) t ≡ t / 2 ^ 11 % 2 ^ w
@@ -143,28 +143,33 @@ module _ (t n : ℕ) (h : operandCount (code t) ≡ some n) where
     unfolding fieldsOf
     thirteenth = go (eqb (code t) 190) refl
       where
-        mixed : (q₁ q₂ q₃ q₄ b : ℕ) → q₁ ≡ 0 + 4 * q₂ → q₂ ≡ b + 2 * q₃ → q₃ ≡ 0 + 32 * q₄ → b < 2 → q₁ % 16 * 2048 + 0 * 8192 ≡ b * 8192
-        mixed q₁ q₂ q₃ q₄ b h₁ h₂ h₃ l = let k : q₁ ≡ 4 * b + 16 * (16 * q₄) = omega arith in omega (arith, k)
+        mixed : (q₁ q₂ q₃ q₄ b : ℕ) → q₁ ≡ 0 + 4 * q₂ → q₂ ≡ b + 2 * q₃ → q₃ ≡ 0 + 16 * q₄ → b < 2 → q₁ % 16 * 2048 + 0 * 8192 ≡ b * 8192
+        mixed q₁ q₂ q₃ q₄ b h₁ h₂ h₃ l = let k : q₁ ≡ 4 * b + 16 * (8 * q₄) = omega arith in omega (arith, k)
 
         go : (b : Bool) → eqb (code t) 190 ≡ b → fieldIn (x .field) t * 2 ^ 11 + cond (not b) (bits 13 13 t) 0 * 2 ^ 13 ≡ bits 13 13 t * 2 ^ 13
         go true p =
             let w : widthOf (code t) ≡ 4 = unfold widthOf in rw (eqb-true (code t) 190 p) in
-            rw (field-is 4 w) (mixed _ _ _ _ (bits 13 13 t) (rw (clear .low) at (bits-above t 11 2)) (bits-above t 13 1) (rw (clear .mid) at (bits-above t 14 5)) (omega arith))
+            rw (field-is 4 w) (mixed _ _ _ _ (bits 13 13 t) (rw (clear .low) at (bits-above t 11 2)) (bits-above t 13 1) (rw (clear .mid) at (bits-above t 14 4)) (omega arith))
         go false p = rw (field-none p) (omega arith)
 
     either-way : (b : Bool) (k : ℕ) → k ≡ 0 → cond b k 0 ≡ 0
     either-way true k e = e
     either-way false k e = refl
 
-    pub test-none : fieldsOf x t .test ≡ 0
+    pub test-is : fieldsOf x t .test ≡ bits 18 18 t
     unfolding fieldsOf
-    test-none = either-way (within (code t) (3 ∷ 5 ∷ 8 ∷ 13 ∷ 31 ∷ 63 ∷ [])) (bits 18 18 t) (omega (arith, bits-above t 14 4, bits-above t 18 1, clear .mid))
+    test-is = go (within (code t) (3 ∷ 5 ∷ 8 ∷ 13 ∷ 31 ∷ 63 ∷ [])) (eqb (bits 18 18 t) 0) refl (clear .test)
+      where
+        go : (w e : Bool) → eqb (bits 18 18 t) 0 ≡ e → (e || w) ≡ true → cond w (bits 18 18 t) 0 ≡ bits 18 18 t
+        go true e p q = refl
+        go false true p q = sym (eqb-true _ _ p)
+        go false false p q = impossible (cc)
 
     plain-sum : eqb t (tokenWith (code t) (fieldsOf x t)) ≡ true
     unfolding fieldsOf
     plain-sum =
         let extended : fieldsOf x t .extended ≡ 0 = either-way (chained x || long t) (bits 31 31 t) (clear .top) in
-        eq-eqb _ _ (sums (fieldIn (x .field) t) (fieldsOf x t .saturate) (fieldsOf x t .test) (fieldsOf x t .extended) thirteenth test-none extended ∙ rw (unsized))
+        eq-eqb _ _ (sums (fieldIn (x .field) t) (fieldsOf x t .saturate) (fieldsOf x t .test) (fieldsOf x t .extended) thirteenth test-is extended ∙ rw (unsized))
 
     pub unfollowed : follows t ≡ false
     unfolding follows
@@ -186,18 +191,6 @@ module _ (ds : List ℕ) (t n : ℕ) (some-there : 0 < length ds) (et : t ≡ ge
   told-head : a ≡ ends 1 (readHead y t (drop 1 ds))
   told-head = ea ∙ ap (λ (g : Bool). ends 1 (chain g (drop 1 ds))) ef ∙ ap (ends 1) (sym (chain-head t n h (drop 1 ds)))
 
-  -- a fault of the layout that the code was told
-  module _ {s : Shape} (l : Laid (code t) s) {r : Verdict} (er : r ≡ verdict (fault (meant s))) where
-    fault-is : r ≡ verdict (fault y)
-    fault-is = er ∙ ap (λ (x : Layout). verdict (fault x)) (l .meaning)
-
-    pub chain-off : a ≡ Off → Judged t ds r
-    chain-off e m = head-lost y m ds t some-there et fault-is (head-off y t ds told-head e)
-
-    pub operands-lost : {b : ℕ} → a ≡ To b → {q : Operands} → Run n ds b q → q ≡ Lost → Judged t ds r
-    operands-lost {b} e run k m =
-        parts-off y m ds t some-there et (headed-at y t ds some-there told-head e) fault-is (lost-parts t n h m ds b run k) refl
-
   module _ {b : ℕ} (e : a ≡ To b) where
     pub begins : Headed y t ds b
     begins = headed-at y t ds some-there told-head e
@@ -215,8 +208,42 @@ module _ (ds : List ℕ) (t n : ℕ) (some-there : 0 < length ds) (et : t ≡ ge
       operands-inexact z m = parts-inexact y m ds t some-there et begins (kept-parts t n h m ds b run k (length ds) refl) refl z
 
       module _ (c : Bool) (ec : c ≡ headed y t (slice 1 b ds) (length ds - b)) where
-        pub token-inexact : c ≡ false → Judged t ds Inexact
-        token-inexact z m = head-inexact y m ds t some-there et begins (kept-parts t n h m ds b run k (length ds) refl) refl c ec z
-
         pub all-exact : exact ≡ true → c ≡ true → (j : ℕ) → j ≡ length ds → Judged t ds (Fine rows (words + (j - end)))
         all-exact z w j ej m = all-fine y m ds t some-there et begins (kept-parts t n h m ds b run k j ej) refl z c ec w
+
+-- ---- a plain token: the operands stand behind it
+module _ (ds : List ℕ) (t n : ℕ) (some-there : 0 < length ds) (et : t ≡ getD ds 0 0) (h : operandCount (code t) ≡ some n) (plain : plainToken t ≡ true) (small : t < 2 ^ 32) where
+  no-head : To 1 ≡ ends 1 (chain false (drop 1 ds))
+  unfolding chain
+  no-head = go (drop 1 ds)
+    where
+      go : (l : List ℕ) → To 1 ≡ ends 1 (chain false l)
+      go [] = refl
+      go (x ∷ l) = refl
+
+  ends-token : false ≡ follows t
+  ends-token = sym (unfollowed t n h plain small)
+
+  -- with no operand nothing is lost
+  some-lost : (k : ℕ) {q : Operands} → Run k ds 1 q → q ≡ Lost → 0 < k
+  some-lost (suc k) run e = omega arith
+  some-lost zero (ran a b k f) e = impossible (cc)
+  some-lost zero (lost f) e =
+      let z : sum 0 (length ds - 1) true ≡ off = sym (tail-ends true ds 1 some-there) ∙ f true (tail ∷ []) in
+      impossible (cc)
+
+  miscounted : 0 < n → Miscounted ≡ verdict (fault (layout (code t)))
+  miscounted l =
+      let k : n + 1 ≡ length (layout (code t) .items) = sym (ap length (items (code t) n h) ∙ simp (length-append, length-replicate) (omega arith)) in
+      count-above (layout (code t)) (ap (λ (x : Layout). x .kind) (laid (code t) n h)) (n + 1) k (omega arith)
+
+  pub plain-lost : {q : Operands} → Run n ds 1 q → q ≡ Lost → Judged t ds Miscounted
+  plain-lost run k m =
+      parts-off (layout (code t)) m ds t some-there et (begins ds t n some-there et h ends-token no-head refl) (miscounted (some-lost n run k)) (lost-parts t n h m ds 1 run k) refl
+
+  module _ {rows words end : ℕ} {exact : Bool} {q : Operands} (run : Run n ds 1 q) (k : q ≡ Read rows words end exact) where
+    pub plain-inexact : exact ≡ false → Judged t ds Inexact
+    plain-inexact z = operands-inexact ds t n some-there et h ends-token no-head refl run k z
+
+    pub plain-fine : exact ≡ true → (j : ℕ) → j ≡ length ds → Judged t ds (Fine rows (words + (j - end)))
+    plain-fine z j ej = all-exact ds t n some-there et h ends-token no-head refl run k true (plain-headed t n h plain small ds 1 (length ds - 1) (λ z. refl)) z refl j ej

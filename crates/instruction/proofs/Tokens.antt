@@ -89,6 +89,24 @@ one-of-six false false false false true f = refl
 one-of-six false false false false false true = refl
 one-of-six false false false false false false = refl
 
+-- a plain token, by whether it has a test bit
+module _ (a b e w : Bool) (h : a ≡ b) where
+  pub no-test : (a && e) ≡ true → true ≡ (b && (e || w))
+  no-test z = go b e (rw h at z)
+    where
+      go : (b e : Bool) → (b && e) ≡ true → true ≡ (b && (e || w))
+      go true true z = refl
+      go true false z = impossible (cc)
+      go false e z = impossible (cc)
+
+  pub a-test : (a && e) ≡ false → (c v : Bool) → c ≡ b → v ≡ w → (c && v) ≡ (b && (e || w))
+  a-test z c v p q = rw (p, q) (go b e (rw h at z))
+    where
+      go : (b e : Bool) → (b && e) ≡ false → (b && w) ≡ (b && (e || w))
+      go true true z = impossible (cc)
+      go true false z = refl
+      go false e z = refl
+
 -- what a test decides
 module _ (b x : Bool) (v w : ℕ) (e : b ≡ x) where
   pub if-taken : b ≡ true → v ≡ cond x v w

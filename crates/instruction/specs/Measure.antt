@@ -1,13 +1,17 @@
 -- What measuring tells of a reading: its rows and words, and whether it is exact.
-use Rattle.format.specs.Basis.{ℕ, _+_, _-_, _≤_, _≡_, List, _++_, Bool, true, cond, not, _&&_, _||_, length, drop, replicate, eqb, _%_}
+use Rattle.format.specs.Basis.{ℕ, _+_, _-_, _≤_, _≡_, List, [], _∷_, _++_, Bool, true, false, cond, not, _&&_, _||_, length, drop, replicate, eqb, ltb, _%_, _^_, _<_}
 use Rattle.format.specs.Dwords.{bits, Got, malformed, got, then, noneLeft}
-use Rattle.format.specs.Counts.{Fields, tokenWith, rising}
+use Rattle.format.specs.Counts.{within, Fields, tokenWith, rising}
 use Rattle.format.specs.Framing.{code}
-use Rattle.format.specs.Declarations.{Item, o, d, small, s, Layout, layout, inBounds}
-use Rattle.layouts.specs.Shapes.{listed, tailed}
+use Rattle.format.specs.Declarations.{Item, o, d, small, s, Layout, layout, fieldIn, inBounds}
+use Rattle.layouts.specs.Shapes.{listed, tailed, fieldOf, Laid}
+use Rattle.operand.specs.declared.Measured.{Measured}
+use Rattle.operand.specs.declared.Measured.the-variants.{Read as MeasuredRead, Malformed}
 use Rattle.layouts.specs.declared.Shape.{Shape}
 use Rattle.instruction.specs.declared.Operands.{Operands}
 use Rattle.instruction.specs.declared.Operands.the-variants.{Read, Lost}
+use Rattle.instruction.specs.declared.Surplus.{Surplus}
+use Rattle.instruction.specs.declared.Surplus.the-variants.{Read as SurplusRead, Lost as SurplusLost}
 use Rattle.instruction.specs.declared.Body.{Body}
 use Rattle.instruction.specs.declared.Body.the-variants.{Read as BodyRead, Off as BodyOff}
 use Rattle.instruction.specs.declared.Fields.{Fields as CodeFields}
@@ -86,10 +90,44 @@ classed kind t n = not (eqb kind 5 && eqb (bits 11 15 t) 3) || eqb (n % 4) 0
 unfoldable pub headed : Layout → ℕ → List ℕ → ℕ → Bool
 headed x t e n = eqb t (tokenWith (code t) (fieldsOf x t)) && rising 0 (extensions x e) && inBounds (x .field) t && classed (x .kind) t n
 
--- a token without the bits that only some codes may have, and without an extension
+-- a token with nothing but its code, its length, saturate, test and precise
+abbrev pub clearToken : ℕ → Bool
+clearToken t = eqb (bits 11 12 t) 0 && eqb (bits 14 17 t) 0 && eqb (bits 23 23 t) 0 && eqb (bits 31 31 t) 0
+
+-- the same, and with a test only if its code may have one
 abbrev pub plainToken : ℕ → Bool
-plainToken t = eqb (bits 11 12 t) 0 && eqb (bits 14 18 t) 0 && eqb (bits 23 23 t) 0 && eqb (bits 31 31 t) 0
+plainToken t = clearToken t && (eqb (bits 18 18 t) 0 || within (code t) (3 ∷ 5 ∷ 8 ∷ 13 ∷ 31 ∷ 63 ∷ []))
 
 -- what measuring answers of an instruction with the token t, in either model
 abbrev pub Judged : ℕ → List ℕ → Verdict → Type 0
 Judged t ds r = (m : Bool) → r ≡ verdict (judged (layout (code t)) (split m (layout (code t)) ds))
+
+-- an operand that was measured, by what it has beside one row and its words
+abbrev pub surplus : Measured → Surplus
+surplus (MeasuredRead r w n e) = SurplusRead (r - 1) (n - w - r) n e
+surplus Malformed = SurplusLost
+
+-- a token of a declaration with nothing but its code, its field, within its bounds, and its length
+abbrev pub bareToken : Shape → ℕ → Bool
+bareToken x t = ltb t (2 ^ 31) && eqb (bits 11 23 t) (fieldIn (fieldOf x) t) && inBounds (fieldOf x) t
+
+-- k operands, each a row and words, stand between two places, if the second is not past the end; or it is 0
+pub record Behind (k : ℕ) (ds : List ℕ) (at end : ℕ) : Type 0 where
+  pub few : end ≤ at + 5
+  pub run : 0 < end → end ≤ length ds → Run k ds at (Read k (end - at - k) end true)
+
+-- whether k small dwords stand at a place, if it is not past the end
+abbrev pub IsSmall : ℕ → List ℕ → ℕ → Bool → Type 0
+IsSmall k ds at r = r ≡ true → at ≤ length ds → Passes (replicate k small) ds at (At (at + k))
+
+-- the shape is a declaration's
+pub record Declared (c : ℕ) (x : Shape) : Type 0 where
+  pub laid : Laid c x
+  pub kind : x .kind ≡ 4
+  pub operands : x .operands ≤ 1
+  pub ends : x .tail ≡ false
+
+-- an instruction of the token t and the shape x is fine if it has n dwords, in the model
+pub record Quick (m : Bool) (t : ℕ) (x : Shape) (ds : List ℕ) (n : ℕ) : Type 0 where
+  pub fits : n ≡ length ds → 1 + x .operands ≤ n
+  pub fine : n ≡ length ds → Fine (x .operands) (n - 1 - x .operands) ≡ verdict (judged (layout (code t)) (split m (layout (code t)) ds))

@@ -1,11 +1,11 @@
 // Measures an instruction: refused with 13 or 14, or the rows and words that it needs.
 ghost use mathlib.Core.Path.{_≡_};
 ghost use mathlib.Core.List.{[], _∷_};
-ghost use Prim.Native.Nat.{ℕ, _+_, _*_, _-_, _%_, _^_, _<_, _≤_};
+ghost use Prim.Native.Nat.{ℕ, _+_, _*_, _-_, _/_, _%_, _^_, _<_, _≤_};
 ghost use lib.ListN.{length, getD, drop, replicate};
 ghost use lib.Dec.{ltb, eqb};
 ghost use lib.Seq.{slice};
-ghost use mathlib.Core.Option.{some};
+ghost use mathlib.Core.Option.{none, some};
 ghost use Rattle.format.specs.Dwords.{dwordsOf, bits};
 ghost use Rattle.format.specs.Dwords as d;
 ghost use Rattle.format.specs.Counts.{operandCount};
@@ -15,13 +15,17 @@ ghost use Rattle.format.specs.Declarations as dc;
 ghost use Rattle.format.specs.Declarations.{layout};
 ghost use Rattle.format.specs.Counts as ct;
 ghost use Rattle.format.specs.Instructions as ins;
+ghost use Rattle.format.specs.Operands as op;
+ghost use Rattle.operand.specs.Measures.{measured};
 ghost use Rattle.layouts.specs.Shapes.{Sound, Laid, listed, tailed, meant, itemsOf};
 ghost use Rattle.tokens.specs.Chains.{ends as endsOf};
-ghost use Rattle.instruction.specs.Measure.{Passes, Bits, Listed, Ends, rest, fieldsIn, Run, bodyOf, sumOf, verdict, classed, headed, plainToken, Judged};
+ghost use Rattle.instruction.specs.Measure.{Passes, Bits, Listed, Ends, rest, fieldsIn, Run, bodyOf, sumOf, verdict, classed, headed, clearToken, plainToken, Judged, surplus, bareToken, Behind, IsSmall, Declared, Quick};
 use header::long;
 use header::sized;
 use layouts::Shape;
 use layouts::counted_layout;
+use layouts::declaration;
+use layouts::declared;
 use layouts::field_of;
 use layouts::in_bounds;
 use layouts::operand_count;
@@ -29,10 +33,14 @@ use layouts::uncounted_layout;
 use operand::Measured;
 use tokens::Skip;
 use tokens::chain;
+use tokens::dimension;
+use tokens::exact_dword;
 use tokens::follows;
-ghost use mathlib.Core.Bool.{Bool, false, cond, _&&_};
+use tokens::immediate;
+ghost use mathlib.Core.Bool.{Bool, true, cond, not, _&&_};
 use tokens::dword;
 use tokens::dwords;
+use tokens::usual_length;
 
 // Where the next item stands; or those before it do not fit.
 pub enum Place {
@@ -66,6 +74,13 @@ pub enum Verdict {
     Fine { rows: usize, words: usize },
     Miscounted,
     Inexact,
+}
+
+// An operand that is not usual: its rows but one, its dwords that are neither rows nor words, all of its dwords and whether it is exact; or
+// it is malformed.
+pub enum Surplus {
+    Read(usize, usize, usize, bool),
+    Lost,
 }
 
 fn wide(x: u32) -> usize
@@ -297,39 +312,9 @@ fn operands_of(part: &[u8], from: usize, count: u32) -> Operands
     }
 }
 
-// Measures an operand at a place, if there is to be one.
-fn operand_of(part: &[u8], at: usize, count: u32) -> Operands
-    requires { ⌜ (at ≤ length (dwordsOf (now part))) × (count ≤ 1) ⌝ }
-    ensures { λ r. ⌜ Run count (dwordsOf (now (part .entry))) at r ⌝ }
-{
-    if count == 0 {
-        return Operands::Read {
-            rows: 0,
-            words: 0,
-            end: at,
-            exact: true,
-        };
-    }
-    let Measured::Read {
-        rows,
-        words,
-        dwords,
-        exact,
-    } = operand::deep(part, at, 64)
-    else {
-        return Operands::Lost;
-    };
-    Operands::Read {
-        rows,
-        words,
-        end: at + dwords,
-        exact,
-    }
-}
-
-// Measures the parts of an instruction without a count, from a place on to its end.
+// Measures the parts of an instruction, from a place on to its end.
 fn parts_of(part: &[u8], at: usize, s: Shape, model51: bool) -> Body
-    requires { ⌜ (at ≤ length (dwordsOf (now part))) × Sound s × (s .operands ≤ 1) ⌝ }
+    requires { ⌜ (at ≤ length (dwordsOf (now part))) × Sound s ⌝ }
     ensures { λ r. ⌜ r ≡ bodyOf (sumOf model51 (itemsOf s) (drop at (dwordsOf (now (part .entry))))) ⌝ }
 {
     let Place::At(a) = past_dwords(part, at, s.before) else {
@@ -340,7 +325,7 @@ fn parts_of(part: &[u8], at: usize, s: Shape, model51: bool) -> Body
         words,
         end,
         exact,
-    } = operand_of(part, a, s.operands)
+    } = operands_of(part, a, s.operands)
     else {
         return Body::Off;
     };
@@ -482,9 +467,9 @@ fn exact_head(part: &[u8], s: Shape, t: u32, end: usize) -> bool
     exact_class(s.kind, t, dwords(part) - end)
 }
 
-// Measures an instruction whose code has no count, by its shape.
-fn measure_uncounted(part: &[u8], s: Shape, t: u32, model51: bool) -> Verdict
-    requires { ⌜ (0 < length (dwordsOf (now part))) × (t ≡ getD (dwordsOf (now part)) 0 0) × Laid (code t) s × (s .operands ≤ 1) ⌝ }
+// Measures an instruction by its shape.
+fn measure_shaped(part: &[u8], s: Shape, t: u32, model51: bool) -> Verdict
+    requires { ⌜ (0 < length (dwordsOf (now part))) × (t ≡ getD (dwordsOf (now part)) 0 0) × Laid (code t) s ⌝ }
     ensures { λ r. ⌜ r ≡ verdict (ins.judged (layout (code t)) (ins.split model51 (layout (code t)) (dwordsOf (now (part .entry))))) ⌝ }
 {
     let Skip::To(end) = head(part, s, t) else {
@@ -502,54 +487,225 @@ fn measure_uncounted(part: &[u8], s: Shape, t: u32, model51: bool) -> Verdict
     Verdict::Fine { rows, words }
 }
 
-// Whether a token has only its code, its length, saturate and precise, which every counted code may have.
-pub fn plain(t: u32) -> bool
-    ensures { λ r. ⌜ r ≡ plainToken t ⌝ }
+// Whether a token has only its code, its length, saturate, test and precise, and no extension.
+fn clear(t: u32) -> bool
+    ensures { λ r. ⌜ r ≡ clearToken t ⌝ }
 {
     (t / 0x800 % 4 == 0)
-        & (t / 0x4000 % 32 == 0)
+        & (t / 0x4000 % 16 == 0)
         & (t / 0x80_0000 % 2 == 0)
         & (t / 0x8000_0000 % 2 == 0)
 }
 
-// Whether the dwords of an instruction of n operands in front of them, which stand at a place, are exactly those of its layout.
-fn exact_counted(part: &[u8], n: u32, t: u32, end: usize) -> bool
-    requires { ⌜ (operandCount (code t) ≡ some n) × (d.follows t ≡ false → end ≡ 1) × (1 ≤ end) × (end ≤ length (dwordsOf (now part))) ⌝ }
-    ensures { λ r. ⌜ r ≡ headed (layout (code t)) t (slice 1 end (dwordsOf (now (part .entry)))) (length (dwordsOf (now (part .entry))) - end) ⌝ }
+// The same, and a test only where the code has one. Most have none, which one comparison tells.
+pub fn plain(t: u32) -> bool
+    ensures { λ r. ⌜ r ≡ plainToken t ⌝ }
 {
-    if plain(t) {
+    if clear(t) & (t / 0x4_0000 % 2 == 0) {
         return true;
     }
-    exact_head(part, counted_layout(t % 2048, n), t, end)
+    clear(t) & tests(t % 2048)
 }
 
-// Measures an instruction whose code has n operands.
-fn measure_counted(part: &[u8], n: u32, t: u32) -> Verdict
-    requires { ⌜ (0 < length (dwordsOf (now part))) × (t ≡ getD (dwordsOf (now part)) 0 0) × (operandCount (code t) ≡ some n) ⌝ }
-    ensures { λ r. ⌜ Judged t (dwordsOf (now (part .entry))) r ⌝ }
+// Whether an operand's dword is exact, has no representations and no immediates, and one extension follows it, which is exact.
+fn extends(t: u32, x: u32) -> bool
+    ensures { λ r. ⌜ r ≡ (eqb (t / 0x400000) 512 && op.exactDword t && not (op.immediate t) && not (d.follows x) && op.exactExtension (x ∷ [])) ⌝ }
 {
-    let Skip::To(end) = chain(part, 1, follows(t)) else {
-        return fault(counted_layout(t % 2048, n));
+    (t / 0x40_0000 == 512)
+        & exact_dword(t)
+        & !immediate(t)
+        & !follows(x)
+        & tokens::exact_extension(x)
+}
+
+// Measures an operand that is not usual. Most of them have one extension and are usual otherwise.
+fn beside(part: &[u8], at: usize) -> Measured
+    requires { ⌜ at < length (dwordsOf (now part)) ⌝ }
+    ensures { λ a. ⌜ a ≡ measured (op.operand 64 (drop at (dwordsOf (now (part .entry))))) ⌝ }
+{
+    let n = dwords(part) - at;
+    if n < 2 {
+        return operand::deep(part, at, 64);
+    }
+    let t = dword(part, at);
+    if !extends(t, dword(part, at + 1)) {
+        return operand::deep(part, at, 64);
+    }
+    let indices = wide(dimension(t));
+    if n - 2 < indices {
+        return Measured::Malformed;
+    }
+    Measured::Read {
+        rows: 1,
+        words: indices,
+        dwords: 2 + indices,
+        exact: true,
+    }
+}
+
+// Measures an operand that is not usual, by what it has beside a usual one.
+fn unusual(part: &[u8], at: usize) -> Surplus
+    requires { ⌜ at < length (dwordsOf (now part)) ⌝ }
+    ensures { λ r. ⌜ r ≡ surplus (measured (op.operand 64 (drop at (dwordsOf (now (part .entry)))))) ⌝ }
+{
+    let Measured::Read {
+        rows,
+        words,
+        dwords: d,
+        exact,
+    } = beside(part, at)
+    else {
+        return Surplus::Lost;
     };
+    Surplus::Read(rows - 1, d - words - rows, d, exact)
+}
+
+// Measures so many operands that stand behind a token. Most are usual, and are passed by the number of their dwords; the rows and dwords
+// that others have beside are counted apart.
+fn plain_operands(part: &[u8], count: u32) -> Operands
+    requires { ⌜ 0 < length (dwordsOf (now part)) ⌝ }
+    ensures { λ r. ⌜ Run count (dwordsOf (now (part .entry))) 1 r ⌝ }
+{
+    let n = dwords(part);
+    let mut more = 0;
+    let mut skipped = 0;
+    let mut at = 1;
+    let mut exact = true;
+    let mut i = 0;
+    while i < count {
+        if n <= at {
+            return Operands::Lost;
+        }
+        let k = usual_length(dword(part, at));
+        if k > 0 {
+            at += k;
+        } else {
+            let Surplus::Read(m, s, d, e) = unusual(part, at) else {
+                return Operands::Lost;
+            };
+            more += m;
+            skipped += s;
+            at += d;
+            exact = both(exact, e);
+        }
+        i += 1;
+    }
+    if n < at {
+        return Operands::Lost;
+    }
+    let rows = wide(count) + more;
+    Operands::Read {
+        rows,
+        words: at - 1 - rows - skipped,
+        end: at,
+        exact,
+    }
+}
+
+// Measures an instruction of n operands whose token is plain.
+fn measure_plain(part: &[u8], n: u32) -> Verdict
+    requires { ⌜ (0 < length (dwordsOf (now part))) × (operandCount (code (getD (dwordsOf (now part)) 0 0)) ≡ some n) × (plainToken (getD (dwordsOf (now part)) 0 0) ≡ true) × (getD (dwordsOf (now part)) 0 0 < 2 ^ 32) ⌝ }
+    ensures { λ r. ⌜ Judged (getD (dwordsOf (now (part .entry))) 0 0) (dwordsOf (now (part .entry))) r ⌝ }
+{
     let Operands::Read {
         rows,
         words,
-        end: after,
+        end,
         exact,
-    } = operands_of(part, end, n)
+    } = plain_operands(part, n)
     else {
-        return fault(counted_layout(t % 2048, n));
+        return Verdict::Miscounted;
     };
     if !exact {
         return Verdict::Inexact;
     }
-    if !exact_counted(part, n, t, end) {
-        return Verdict::Inexact;
-    }
     Verdict::Fine {
         rows,
-        words: words + (dwords(part) - after),
+        words: words + (dwords(part) - end),
     }
+}
+
+// Whether a declaration's token has only its code, its length and a field within its bounds.
+fn bare(s: Shape, t: u32) -> bool
+    requires { ⌜ Sound s ⌝ }
+    ensures { λ r. ⌜ r ≡ bareToken s t ⌝ }
+{
+    (t < 0x8000_0000) & (t / 0x800 % 0x2000 == field_of(s, t)) & in_bounds(s, t)
+}
+
+// The place behind a usual operand, if there is to be one; 0: it is not usual.
+fn past_usual(part: &[u8], at: usize, operands: u32) -> usize
+    requires { ⌜ (at ≤ 4) × (operands ≤ 1) ⌝ }
+    ensures { λ r. ⌜ Behind operands (dwordsOf (now (part .entry))) at r ⌝ }
+{
+    if operands == 0 {
+        return at;
+    }
+    let n = dwords(part);
+    if n <= at {
+        return 0;
+    }
+    let k = usual_length(dword(part, at));
+    if k == 0 {
+        return 0;
+    }
+    at + k
+}
+
+// Whether a dword is under 65,536, if there is to be one.
+fn small_at(part: &[u8], at: usize, small: u32) -> bool
+    requires { ⌜ small ≤ 1 ⌝ }
+    ensures { λ r. ⌜ IsSmall small (dwordsOf (now (part .entry))) at r ⌝ }
+{
+    if small == 0 {
+        return true;
+    }
+    let n = dwords(part);
+    if n <= at {
+        return false;
+    }
+    dword(part, at) < 65536
+}
+
+// How many dwords a declaration has, if it has a bare token, no list and at most a usual operand, as most have; 0: it is another.
+fn quick(part: &[u8], s: Shape, t: u32, model51: bool) -> usize
+    requires { ⌜ (0 < length (dwordsOf (now part))) × (t ≡ getD (dwordsOf (now part)) 0 0) × Declared (code t) s ⌝ }
+    ensures { λ r. ⌜ Quick model51 t s (dwordsOf (now (part .entry))) r ⌝ }
+{
+    if s.list != 0 {
+        return 0;
+    }
+    if !bare(s, t) {
+        return 0;
+    }
+    let at = past_usual(part, 1 + wide(s.before), s.operands);
+    if at == 0 {
+        return 0;
+    }
+    if !small_at(part, at, s.small) {
+        return 0;
+    }
+    at + wide(s.small + s.after + extra(s, model51))
+}
+
+// Measures an instruction whose code has no count.
+fn measure_uncounted(part: &[u8], t: u32, model51: bool) -> Verdict
+    requires { ⌜ (0 < length (dwordsOf (now part))) × (t ≡ getD (dwordsOf (now part)) 0 0) × (operandCount (code t) ≡ none) ⌝ }
+    ensures { λ r. ⌜ r ≡ verdict (ins.judged (layout (code t)) (ins.split model51 (layout (code t)) (dwordsOf (now (part .entry))))) ⌝ }
+{
+    let d = declaration(t % 2048);
+    if d != 0 {
+        let s = declared(d);
+        let n = dwords(part);
+        if quick(part, s, t, model51) == n {
+            let rows = wide(s.operands);
+            return Verdict::Fine {
+                rows,
+                words: n - 1 - rows,
+            };
+        }
+    }
+    measure_shaped(part, uncounted_layout(t % 2048), t, model51)
 }
 
 // Measures an instruction: its own dwords, under a ceiling, in model 5.1 or not.
@@ -567,7 +723,10 @@ pub fn measure(part: &[u8], ceiling: u32, model51: bool) -> Verdict
     }
     let n = operand_count(code);
     if n < 7 {
-        return measure_counted(part, n, t);
+        if plain(t) {
+            return measure_plain(part, n);
+        }
+        return measure_shaped(part, counted_layout(code, n), t, model51);
     }
-    measure_uncounted(part, uncounted_layout(code), t, model51)
+    measure_uncounted(part, t, model51)
 }

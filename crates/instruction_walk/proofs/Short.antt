@@ -21,7 +21,7 @@ use Rattle.layouts.specs.declared.Shape.{Shape}
 use Rattle.layouts.proofs.Others.{counts}
 use Rattle.operand_walk.proofs.Fields.{row-at}
 use Rattle.instruction.specs.Measure.{headed, classed, plainToken}
-use Rattle.instruction.proofs.Counted.{unsized, field-none, test-none, unfollowed, plain-headed}
+use Rattle.instruction.proofs.Counted.{unsized, field-none, test-is as test-bit, unfollowed, plain-headed}
 use Rattle.instruction_walk.specs.Walks.{Takes, Runs, rowFrom, Decides, holds, fails, Unchained, Chained, Headed, Fielded, Pieces, Placed, Plain, PlainCode, Known}
 use Rattle.instruction_walk.specs.declared.Walked.{Walked}
 use Rattle.instruction_walk.specs.declared.Walked.the-variants.{Is, Not}
@@ -38,7 +38,8 @@ record Split (t c s p n : ℕ) : Type 0 where
   code-is : code t ≡ c
   low : bits 11 12 t ≡ 0
   saturate : bits 13 13 t ≡ s
-  mid : bits 14 18 t ≡ 0
+  mid : bits 14 17 t ≡ 0
+  test : bits 18 18 t ≡ 0
   precise : bits 19 22 t ≡ p
   high : bits 23 23 t ≡ 0
   length-is : bits 24 30 t ≡ n
@@ -50,6 +51,7 @@ split t c s p n e hc hs hp hn =
     let d₁₁ : t / 2 ^ 11 ≡ s * 4 + p * 256 + n * 8192 = omega arith in
     let d₁₃ : t / 2 ^ 13 ≡ s + p * 64 + n * 2048 = omega arith in
     let d₁₄ : t / 2 ^ 14 ≡ p * 32 + n * 1024 = omega arith in
+    let d₁₈ : t / 2 ^ 18 ≡ p * 2 + n * 64 = omega arith in
     let d₁₉ : t / 2 ^ 19 ≡ p + n * 32 = omega arith in
     let d₂₃ : t / 2 ^ 23 ≡ n * 2 = omega arith in
     let d₂₄ : t / 2 ^ 24 ≡ n = omega arith in
@@ -59,6 +61,7 @@ split t c s p n e hc hs hp hn =
       low = rw d₁₁ (omega arith);
       saturate = rw d₁₃ (omega arith);
       mid = rw d₁₄ (omega arith);
+      test = rw d₁₈ (omega arith);
       precise = rw d₁₉ (omega arith);
       high = rw d₂₃ (omega arith);
       length-is = rw d₂₄ (omega arith);
@@ -103,7 +106,7 @@ module _ (q : List ℕ) (k : ℕ) (p : PlainCode q k) where
   counted = rw (parts .code-is) (p .count)
 
   plain-token : plainToken t ≡ true
-  plain-token = rw (parts .low, parts .mid, parts .high, parts .top)
+  plain-token = rw (parts .low, parts .mid, parts .high, parts .top, parts .test)
 
   abbrev x : Layout
   x = layout (code t)
@@ -127,7 +130,7 @@ module _ (q : List ℕ) (k : ℕ) (p : PlainCode q k) where
       let n : eqb (code t) 190 ≡ false = ne-eqb (code t) 190 (λ z. p .plain .code-is (code-of ∙ z)) in
       record {
         saturate-is = rw (by-count, n) (sym (parts .saturate));
-        test-is = p .plain .test-is ∙ sym (ap (λ (y : Layout). fieldsOf y t .test) by-count ∙ test-none t k counted plain-token (parts .small));
+        test-is = p .plain .test-is ∙ sym (ap (λ (y : Layout). fieldsOf y t .test) by-count ∙ test-bit t k counted plain-token (parts .small) ∙ parts .test);
         precise-is = rw by-count (sym (parts .precise));
         field-is = p .plain .field-is ∙ sym (ap (λ (y : Layout). fieldIn (y .field) t) by-count ∙ field-none t k counted plain-token (parts .small) n);
       }

@@ -134,3 +134,7 @@ module _ (ds : List ℕ) (t n : ℕ) (et : t ≡ getD ds 0 0) (h : operandCount 
       pub counted-written : (R is is′ : List ℕ) → R ≡ rowFor (meant x) t (slice 1 b ds) at (length ds) row n word (z .words) → is′ ≡ R ++ drop 16 is
           → Written (judged (layout (code t)) (split false (layout (code t)) ds)) at row word is L W z is′ L′ W′
       counted-written = known-written false x t ds et la q hd (body-as same er ew wr)
+
+-- a row that is another's is stored as that
+pub stored-as : (is is′ R S : List ℕ) → is′ ≡ R ++ drop 16 is → R ≡ S → is′ ≡ S ++ drop 16 is
+stored-as is is′ R S e f = e ∙ ap (λ (l : List ℕ). l ++ drop 16 is) f

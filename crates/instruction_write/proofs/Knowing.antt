@@ -97,7 +97,7 @@ module _ (m : Bool) (s : Shape) (t : ℕ) (ds : List ℕ) (et : t ≡ getD ds 0 
       let y : malformed ≡ got (acc .exts) (acc .middle) = sym z ∙ acc .head in
       impossible (cc)
 
-  parts-are : {i : Instruction} {e : List ℕ} {ps : List Tree} → i ≡ pieces t e ps → parts i ≡ ps
+  pub parts-are : {i : Instruction} {e : List ℕ} {ps : List Tree} → i ≡ pieces t e ps → parts i ≡ ps
   unfolding parts
   parts-are e = ap parts e
 

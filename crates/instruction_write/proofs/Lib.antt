@@ -5,3 +5,4 @@ pub mod Parted
 pub mod Knowing
 mod Plainly
 mod Counting
+mod Declaring

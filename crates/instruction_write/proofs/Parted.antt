@@ -377,3 +377,73 @@ module _ (m : Bool) (x : Shape) (ds : List ℕ) (at : ℕ) {ops ws row word : �
               rows-put = ran .0 .rows-put ∙ (λ i. (ap (λ (n : ℕ). partsTable row n (split .trees)) eb′ ∙ sym (split .table-is row word)) i ++ drop (16 * sym (split .rows-are) i) L);
               words-put = over-front (partsWords (q .room .trees)) W (putMid f (length W₂ - f) W₂ vs) (subst (λ (l : List ℕ). Over 0 l W (putMid f (length W₂ - f) W₂ vs)) ww o₄);
             })
+
+-- ---- the items of a shape without operands are all words
+flats-all : (x : Shape) → x .operands ≡ 0 → Flats (itemsOf x)
+unfolding itemsOf rest
+flats-all x e = rw e (flats-append (flats-many flat-d (x .before)) (flats-rest x))
+
+pub record Wordy (ds : List ℕ) (ps : List Tree) : Type 0 where
+  pub rows-are : partsRows ps ≡ 0
+  pub words-are : partsWords ps ≡ ds
+  pub table-is : (r w : ℕ) → partsTable r w ps ≡ []
+
+module _ (m : Bool) (x : Shape) (bare : x .operands ≡ 0) where
+  pub wordy : (ds : List ℕ) (ps : List Tree) → readItems m (itemsOf x) ds ≡ got ps [] → Wordy ds ps
+  wordy ds ps e =
+      let f : Plain ps = all-got (flat-items m (flats-all x bare) ds) e in
+      let w : op.partsDwords ps ++ [] ≡ ds = all-got (makes-items m (itemsOf x) ds) e in
+      record { rows-are = plain-rows f; words-are = plain-words f ∙ sym (append-nil (op.partsDwords ps)) ∙ w; table-is = λ r k. plain-table r k f }
+
+  module _ (ds : List ℕ) (at n : ℕ) (en : n ≡ length ds - at) where
+    pub words-room : {ops ws row word : ℕ} → BodyRoom (readItems m (itemsOf x) (drop at ds)) (length ds) at ops ws row word → (at + n ≤ length ds) × (n ≤ ws)
+    words-room q =
+        let y = wordy (drop at ds) (q .room .trees) (q .room .is ∙ ap (got (q .room .trees)) (q .whole)) in
+        let l : length (partsWords (q .room .trees)) ≡ length ds - at = ap length (y .words-are) ∙ length-drop at ds in
+        (omega (arith, q .room .within), omega (arith, q .room .for-words))
+
+    pub words-wrote : {row word : ℕ} {W W′ : List ℕ} {z : Sizes} (L : List ℕ) → z .rows ≡ 0 → z .words ≡ n → W′ ≡ take n (drop at ds) ++ drop n W → WroteBody (readItems m (itemsOf x) (drop at ds)) row word L W z L W′
+    words-wrote {row} {word} {W} {W′} {z} L zr zw ew ps e =
+        let y = wordy (drop at ds) ps e in
+        let l : n ≡ length (drop at ds) = en ∙ sym (length-drop at ds) in
+        let k : n ≡ length (partsWords ps) = l ∙ ap length (sym (y .words-are)) in
+        let w : take n (drop at ds) ≡ partsWords ps = take-all n (drop at ds) (omega arith) ∙ sym (y .words-are) in
+        record {
+          rows-are = zr ∙ sym (y .rows-are);
+          words-are = zw ∙ k;
+          rows-put = λ i. sym (y .table-is row word) i ++ drop (16 * sym (y .rows-are) i) L;
+          words-put = ew ∙ (λ i. w i ++ drop (k i) W);
+        }
+
+-- the operands among items
+unfoldable pub operandsIn : List Item → ℕ
+operandsIn [] = 0
+operandsIn (o ∷ l) = 1 + operandsIn l
+operandsIn (d ∷ l) = operandsIn l
+operandsIn (small ∷ l) = operandsIn l
+operandsIn (s ∷ l) = operandsIn l
+operandsIn (tail ∷ l) = operandsIn l
+operandsIn (list b ∷ l) = operandsIn l
+
+-- those of a layout are those of its shape
+flats-in : {a : List Item} (b : List Item) → Flats a → operandsIn (a ++ b) ≡ operandsIn b
+unfolding operandsIn
+flats-in b no-items = refl
+flats-in b (one-flat flat-d l) = flats-in b l
+flats-in b (one-flat flat-small l) = flats-in b l
+flats-in b (one-flat flat-s l) = flats-in b l
+flats-in b (one-flat flat-tail l) = flats-in b l
+flats-in b (one-flat flat-list l) = flats-in b l
+
+operands-in : (k : ℕ) (b : List Item) → operandsIn (replicate k o ++ b) ≡ k + operandsIn b
+unfolding operandsIn
+operands-in zero b = omega arith
+operands-in (suc k) b = omega (arith, operands-in k b)
+
+none-in : {a : List Item} → Flats a → operandsIn a ≡ 0
+unfolding operandsIn
+none-in {a} f = ap operandsIn (sym (append-nil a)) ∙ flats-in [] f
+
+pub operands-are : (x : Shape) → operandsIn (itemsOf x) ≡ x .operands
+unfolding itemsOf rest
+operands-are x = flats-in (replicate (x .operands) o ++ rest x) (flats-many flat-d (x .before)) ∙ operands-in (x .operands) (rest x) ∙ omega (arith, none-in (flats-rest x))

@@ -15,7 +15,7 @@ use Rattle.format.specs.Operands.{Tree}
 use Rattle.format.specs.Instructions.{Instruction, Reading, ok, readItems, read, fieldsOf, extensions}
 use Rattle.format.specs.Rows.{partsRows, partsWords, partsTable, parts, instructionRow}
 use Rattle.layouts.specs.declared.Shape.{Shape}
-use Rattle.layouts.specs.Shapes.{Sound, meant, itemsOf}
+use Rattle.layouts.specs.Shapes.{Sound, Laid, meant, itemsOf}
 use Rattle.layouts.specs.Table.{plainShape, widthOf}
 use Rattle.instruction.specs.Measure.{plainToken}
 use Rattle.operand_write.specs.declared.Sums.{Sums}
@@ -70,6 +70,14 @@ pub record PlainReady (ds : List ℕ) (t words : ℕ) : Type 0 where
   pub counts : operandCount (code t) ≡ some count
   pub plain : plainToken t ≡ true
   pub other : code t ≡ 190 → ⊥
+  pub few : length ds < 2 ^ 32
+  pub words-fit : words < 2 ^ 32
+
+-- the row of a declaration can be made that is not in the long form
+pub record DeclaredReady (s : Shape) (ds : List ℕ) (t words : ℕ) : Type 0 where
+  pub laid : Laid (code t) s
+  pub declares : s .kind ≡ 4
+  pub short : long t ≡ false
   pub few : length ds < 2 ^ 32
   pub words-fit : words < 2 ^ 32
 
@@ -139,3 +147,7 @@ pub record Stored (i : Instruction) (at row word : ℕ) (is ops ws : List ℕ) (
 
 abbrev pub Written : Reading → ℕ → ℕ → ℕ → List ℕ → List ℕ → List ℕ → Sizes → List ℕ → List ℕ → List ℕ → Type 0
 Written g at row word is ops ws a is′ ops′ ws′ = (i : Instruction) → g ≡ ok i → Stored i at row word is ops ws a is′ ops′ ws′
+
+-- the rows of operands, if any, are as they were
+abbrev pub WrittenWords : Reading → ℕ → ℕ → ℕ → List ℕ → List ℕ → Sizes → List ℕ → List ℕ → Type 0
+WrittenWords g at row word is ws a is′ ws′ = (ops : List ℕ) → Written g at row word is ops ws a is′ ops ws′

@@ -1,7 +1,7 @@
 // Writes an instruction that was accepted: its row, the rows of its operands and its words.
 ghost use mathlib.Core.Path.{_≡_};
 ghost use mathlib.Core.Bool.{true, false, cond};
-ghost use mathlib.Core.Option.{some};
+ghost use mathlib.Core.Option.{none, some};
 ghost use mathlib.Core.List.{[], _++_};
 ghost use Prim.Native.Nat.{_<_, _≤_};
 ghost use lib.ListN.{length, getD, drop};
@@ -11,10 +11,12 @@ ghost use Rattle.format.specs.Dwords.{dwordsOf};
 ghost use Rattle.format.specs.Dwords as d;
 ghost use Rattle.format.specs.Counts as ct;
 ghost use Rattle.format.specs.Counts.{operandCount};
+ghost use Rattle.format.specs.Framing as f;
 ghost use Rattle.format.specs.Framing.{code};
 ghost use Rattle.format.specs.Declarations.{layout};
 ghost use Rattle.format.specs.Instructions as ins;
 ghost use Rattle.layouts.specs.Shapes.{Laid, meant, itemsOf};
+ghost use Rattle.layouts.specs.Table.{shapeOf};
 ghost use Rattle.instruction_write.specs.Writes as w;
 use header::long;
 use instruction::fields_of;
@@ -22,6 +24,9 @@ use instruction::head;
 use instruction::plain;
 use layouts::Shape;
 use layouts::counted_layout;
+use layouts::declaration;
+use layouts::declared;
+use layouts::field_of;
 use layouts::operand_count;
 use layouts::uncounted_layout;
 use operand_write::Sums;
@@ -202,7 +207,7 @@ fn plain_row(
         code: t % 2048,
         kind: 1,
         saturate: t / 0x2000 % 2,
-        test: 0,
+        test: t / 0x4_0000 % 2,
         precise: t / 0x8_0000 % 16,
         field: 0,
         extensions: 0,
@@ -216,8 +221,10 @@ fn plain_row(
     }
 }
 
-// The row of an instruction of n operands, which stand at a place. Most have a plain token, and their row is soon made.
-fn counted_row(
+// Stores the row of an instruction of n operands, which stand at a place, at the front of a pool. Most have a plain token, and their row is
+// soon made.
+fn put_counted(
+    rows: &mut [u32],
     part: &[u8],
     n: u32,
     t: u32,
@@ -226,17 +233,21 @@ fn counted_row(
     row: u32,
     word: u32,
     words: usize,
-) -> Row
-    requires { ⌜ w.RowReady (w.countedShape (code t) n) (dwordsOf (now part)) end words × (operandCount (code t) ≡ some n) × (d.follows t ≡ false → end ≡ 1) ⌝ }
-    ensures { λ r. ⌜ w.listed r ≡ w.rowFor (meant (w.countedShape (code t) n)) t (slice 1 end (dwordsOf (now (part .entry)))) offset (length (dwordsOf (now (part .entry)))) row n word words ⌝ }
+)
+    requires { ⌜ (16 ≤ length (now rows)) × w.RowReady (w.countedShape (code t) n) (dwordsOf (now part)) end words × (operandCount (code t) ≡ some n) × (d.follows t ≡ false → end ≡ 1) ⌝ }
+    ensures { λ _. ⌜ now (rows .exit) ≡ w.rowFor (meant (w.countedShape (code t) n)) t (slice 1 end (dwordsOf (now (part .entry)))) offset (length (dwordsOf (now (part .entry)))) row n word words ++ drop 16 (now (rows .entry)) ⌝ }
 {
     if plain(t) {
         if t % 2048 != 190 {
-            return plain_row(part, n, t, offset, row, word, words);
+            put_row(rows, plain_row(part, n, t, offset, row, word, words));
+            return;
         }
     }
     let s = counted_layout(t % 2048, n);
-    known_row(part, s, n, t, end, offset, row, word, words)
+    put_row(
+        rows,
+        known_row(part, s, n, t, end, offset, row, word, words),
+    );
 }
 
 // The row of an instruction that is not read.
@@ -365,10 +376,7 @@ fn write_counted(
         return Sizes { rows: 0, words: 0 };
     };
     let x = write_counted_parts(part, end, n, operands, words, wide(row), wide(word));
-    put_row(
-        instructions,
-        counted_row(part, n, t, end, offset, row, word, x.words),
-    );
+    put_counted(instructions, part, n, t, end, offset, row, word, x.words);
     x
 }
 
@@ -392,10 +400,10 @@ fn write_operand(
             dwords: 0,
         };
     }
-    operand_write::deep(part, from, 64, operands, words, row, word)
+    operand_write::write_one(part, from, 64, operands, words, row, word)
 }
 
-// Writes the parts of an instruction without a count, from a place on to its end: dwords, an operand at most, and all dwords behind it.
+// Writes the parts of a declaration, from a place on to its end: dwords, an operand at most, and all dwords behind it.
 fn write_parts(
     part: &[u8],
     at: usize,
@@ -430,10 +438,43 @@ fn write_parts(
     }
 }
 
-// Writes an instruction whose code has no count, by its shape.
-fn write_uncounted(
+// The row of a declaration that is not in the long form: it has no saturate, test and precise bits, and no extensions.
+fn declared_row(
     part: &[u8],
     s: Shape,
+    t: u32,
+    offset: u32,
+    row: u32,
+    word: u32,
+    words: usize,
+) -> Row
+    requires { ⌜ w.DeclaredReady s (dwordsOf (now part)) t words ⌝ }
+    ensures { λ r. ⌜ w.listed r ≡ w.rowFor (meant s) t [] offset (length (dwordsOf (now (part .entry)))) row (s .operands) word words ⌝ }
+{
+    Row {
+        offset,
+        dwords: dwords(part) as u32,
+        code: t % 2048,
+        kind: 4,
+        saturate: 0,
+        test: 0,
+        precise: 0,
+        field: field_of(s, t),
+        extensions: 0,
+        offsets: 0,
+        second: 0,
+        third: 0,
+        row,
+        operands: s.operands,
+        word,
+        words: words as u32,
+    }
+}
+
+// Writes a declaration that is not in the long form, by its row of the table. Nothing stands between its token and its parts.
+fn write_declared(
+    part: &[u8],
+    d: u32,
     t: u32,
     model51: bool,
     offset: u32,
@@ -443,27 +484,77 @@ fn write_uncounted(
     operands: &mut [u32],
     words: &mut [u32],
 ) -> Sizes
-    requires { ⌜ (t ≡ getD (dwordsOf (now part)) 0 0) × Laid (code t) s × w.Ready (ins.judged (layout (code t)) (ins.split model51 (layout (code t)) (dwordsOf (now part)))) (dwordsOf (now part)) (length (now instructions)) (length (now operands)) (length (now words)) offset row word × (s .operands ≤ 1) ⌝ }
+    requires { ⌜ (t ≡ getD (dwordsOf (now part)) 0 0) × Laid (code t) (shapeOf d) × (f.long t ≡ false) × w.Ready (ins.judged (layout (code t)) (ins.split model51 (layout (code t)) (dwordsOf (now part)))) (dwordsOf (now part)) (length (now instructions)) (length (now operands)) (length (now words)) offset row word ⌝ }
     ensures { λ a. ⌜ w.Written (ins.judged (layout (code t)) (ins.split model51 (layout (code t)) (dwordsOf (now (part .entry))))) offset row word (now (instructions .entry)) (now (operands .entry)) (now (words .entry)) a (now (instructions .exit)) (now (operands .exit)) (now (words .exit)) ⌝ }
+{
+    let s = declared(d);
+    let x = write_parts(part, 1, s, model51, operands, words, wide(row), wide(word));
+    put_row(
+        instructions,
+        declared_row(part, s, t, offset, row, word, x.words),
+    );
+    x
+}
+
+// Writes an instruction whose shape has no operand: all dwords behind its head are words.
+fn write_words(
+    part: &[u8],
+    s: Shape,
+    t: u32,
+    model51: bool,
+    offset: u32,
+    row: u32,
+    word: u32,
+    instructions: &mut [u32],
+    words: &mut [u32],
+) -> Sizes
+    requires { ⌜ (t ≡ getD (dwordsOf (now part)) 0 0) × Laid (code t) s × (s .operands ≡ 0) × w.Ready (ins.judged (layout (code t)) (ins.split model51 (layout (code t)) (dwordsOf (now part)))) (dwordsOf (now part)) (length (now instructions)) 0 (length (now words)) offset row word ⌝ }
+    ensures { λ a. ⌜ w.WrittenWords (ins.judged (layout (code t)) (ins.split model51 (layout (code t)) (dwordsOf (now (part .entry))))) offset row word (now (instructions .entry)) (now (words .entry)) a (now (instructions .exit)) (now (words .exit)) ⌝ }
 {
     let Skip::To(end) = head(part, s, t) else {
         return Sizes { rows: 0, words: 0 };
     };
-    let x = write_parts(
-        part,
-        end,
-        s,
-        model51,
-        operands,
-        words,
-        wide(row),
-        wide(word),
-    );
+    let n = dwords(part) - end;
+    copy(part, end, n, words);
     put_row(
         instructions,
-        known_row(part, s, s.operands, t, end, offset, row, word, x.words),
+        known_row(part, s, 0, t, end, offset, row, word, n),
     );
-    x
+    Sizes { rows: 0, words: n }
+}
+
+// Writes an instruction whose code has no count. Only declarations that are not in the long form have operands.
+fn write_uncounted(
+    part: &[u8],
+    t: u32,
+    model51: bool,
+    offset: u32,
+    row: u32,
+    word: u32,
+    instructions: &mut [u32],
+    operands: &mut [u32],
+    words: &mut [u32],
+) -> Sizes
+    requires { ⌜ (t ≡ getD (dwordsOf (now part)) 0 0) × (operandCount (code t) ≡ none) × w.Ready (ins.judged (layout (code t)) (ins.split model51 (layout (code t)) (dwordsOf (now part)))) (dwordsOf (now part)) (length (now instructions)) (length (now operands)) (length (now words)) offset row word ⌝ }
+    ensures { λ a. ⌜ w.Written (ins.judged (layout (code t)) (ins.split model51 (layout (code t)) (dwordsOf (now (part .entry))))) offset row word (now (instructions .entry)) (now (operands .entry)) (now (words .entry)) a (now (instructions .exit)) (now (operands .exit)) (now (words .exit)) ⌝ }
+{
+    let d = declaration(t % 2048);
+    if d != 0 && !long(t) {
+        return write_declared(
+            part,
+            d,
+            t,
+            model51,
+            offset,
+            row,
+            word,
+            instructions,
+            operands,
+            words,
+        );
+    }
+    let s = uncounted_layout(t % 2048);
+    write_words(part, s, t, model51, offset, row, word, instructions, words)
 }
 
 // Writes an instruction that was accepted, to the front of each pool: its own dwords, under a ceiling, in model 5.1 or not.
@@ -492,7 +583,6 @@ pub fn write(
     }
     write_uncounted(
         part,
-        uncounted_layout(code),
         t,
         model51,
         offset,

@@ -1,5 +1,5 @@
 -- Whether a code stands in a list, by one comparison for each run of codes; and the count of a code by its line, where a `match` tells.
-use Prim.Native.Nat.{ℕ, zero, suc, _+_}
+use Prim.Native.Nat.{ℕ, zero, suc, _+_, _%_}
 use mathlib.Core.Path.{_≡_, refl, sym, _∙_, ap}
 use mathlib.Core.Bool.{Bool, true, false, cond, _&&_, _||_}
 use mathlib.Core.List.{List, [], _∷_, _++_, map}
@@ -107,7 +107,7 @@ abbrev pub line : ℕ → List ℕ
 line n = getD operandCounts n []
 
 -- the members of a list that pass a test
-abbrev pub passing : (ℕ → Bool) → List ℕ → List ℕ
+abbrev passing : (ℕ → Bool) → List ℕ → List ℕ
 passing p [] = []
 passing p (x ∷ l) = cond (p x) (x ∷ passing p l) (passing p l)
 
@@ -158,12 +158,25 @@ no-keys (suc n) (k ∷ ks) c p q = go (eqb c k) p (λ r. no-keys n ks c r q)
 pub by-key : (ks : List ℕ) (c k : ℕ) → map operandCount ks ≡ map (λ x. some k) ks → OneOf ks c → k ≡ counted (operandCount c)
 by-key ks c k e h = sym (ap counted (member operandCount (λ x. some k) ks e c (a-key ks c h)))
 
--- a code that passes a test and is none of those of a line that pass it
-pub by-no-key : (p : ℕ → Bool) (c : ℕ) → p c ≡ true → within c (passing p (line 0)) ≡ false → within c (passing p (line 1)) ≡ false → within c (passing p (line 2)) ≡ false → within c (passing p (line 3)) ≡ false
-    → within c (passing p (line 4)) ≡ false → within c (passing p (line 5)) ≡ false → within c (passing p (line 6)) ≡ false → 7 ≡ counted (operandCount c)
+-- the even codes of a line, and the odd ones
+abbrev pub even : List ℕ → List ℕ
+even = passing (λ x. eqb (x % 2) 0)
+
+abbrev pub odd : List ℕ → List ℕ
+odd = passing (λ x. eqb (x % 2) 1)
+
+-- a code that is none of them
+pub by-no-keys : (c : ℕ) → within c (even (line 0)) ≡ false → within c (even (line 1)) ≡ false → within c (even (line 2)) ≡ false → within c (even (line 3)) ≡ false
+    → within c (even (line 4)) ≡ false → within c (even (line 5)) ≡ false → within c (even (line 6)) ≡ false
+    → within c (odd (line 0)) ≡ false → within c (odd (line 1)) ≡ false → within c (odd (line 2)) ≡ false → within c (odd (line 3)) ≡ false
+    → within c (odd (line 4)) ≡ false → within c (odd (line 5)) ≡ false → within c (odd (line 6)) ≡ false → 7 ≡ counted (operandCount c)
 unfolding operandCount lineOf
-by-no-key p c h n0 n1 n2 n3 n4 n5 n6 =
-    rw (absent 0 n0, absent 1 n1, absent 2 n2, absent 3 n3, absent 4 n4, absent 5 n5, absent 6 n6)
+by-no-keys c a0 a1 a2 a3 a4 a5 a6 b0 b1 b2 b3 b4 b5 b6 =
+    rw (absent 0 a0 b0, absent 1 a1 b1, absent 2 a2 b2, absent 3 a3 b3, absent 4 a4 b4, absent 5 a5 b5, absent 6 a6 b6)
   where
-    absent : (k : ℕ) → within c (passing p (line k)) ≡ false → within c (line k) ≡ false
-    absent k n = among-passing p c h (line k) ∙ n
+    absent : (k : ℕ) → within c (even (line k)) ≡ false → within c (odd (line k)) ≡ false → within c (line k) ≡ false
+    absent k a b = go (eqb (c % 2) 0) refl
+      where
+        go : (e : Bool) → eqb (c % 2) 0 ≡ e → within c (line k) ≡ false
+        go true e = among-passing (λ x. eqb (x % 2) 0) c e (line k) ∙ a
+        go false e = among-passing (λ x. eqb (x % 2) 1) c (eq-eqb (c % 2) 1 (omega (arith, eqb-false (c % 2) 0 e))) (line k) ∙ b

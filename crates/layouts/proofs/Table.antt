@@ -1,80 +1,79 @@
 -- The rule of the table of declarations; the row of a code.
-use Prim.Native.Nat.{ℕ, _-_, _<_, _≤_}
+use Prim.Native.Nat.{ℕ, _-_, _%_, _<_, _≤_}
 use mathlib.Core.Path.{_≡_, refl, _∙_, ap, subst}
 use mathlib.Core.Bool.{Bool, true, false, cond}
 use mathlib.Core.List.{List, [], _∷_, map}
 use native.Mathlib.Omega.{arith}
-use lib.Dec.{leb, ltb}
+use lib.Dec.{eqb, ltb}
 use lib.ListN.{length, getD}
-use borrow.Author.Tests.{leb-true, ltb-true, ltb-false, lt-ltb, le-ltb, ne-eqb}
+use borrow.Author.Tests.{ltb-true, ltb-false, lt-ltb, le-ltb, ne-eqb}
 use Rattle.format.specs.Counts.{numbers, within, lineOf, operandCount}
 use Rattle.format.specs.Declarations.{Layout, inTable, layout}
-use Rattle.layouts.specs.declared.Declaration.{Declaration}
 use Rattle.layouts.specs.Shapes.{fieldOf, itemsOf, meant, Laid}
-use Rattle.layouts.specs.Table.{codeOf, rowOf, shapeOf, Right}
+use Rattle.layouts.specs.Table.{codeOf, rowOf, shapeOf, Right, Declares}
 use Rattle.format.proofs.Each.{at, below}
 use Rattle.layouts.proofs.Shapes.{checks, passed, sound}
 
 -- the table
-unfoldable pub rows : List Declaration
+unfoldable pub rows : List ℕ
 rows =
-    (88, 11, 12, 5, 1, 10, 0, 1, 1, 0, 1, 0) ∷
-    (89, 11, 1, 0, 0, 0, 0, 1, 0, 0, 2, 0) ∷
-    (90, 11, 4, 4, 0, 2, 0, 1, 0, 0, 1, 0) ∷
-    (91, 11, 0, 0, 0, 0, 0, 1, 0, 1, 0, 0) ∷
-    (92, 11, 6, 0, 0, 0, 0, 0, 0, 0, 0, 0) ∷
-    (93, 11, 6, 0, 0, 0, 0, 0, 0, 0, 0, 0) ∷
-    (94, 11, 0, 0, 0, 0, 1, 0, 0, 0, 0, 0) ∷
-    (95, 11, 0, 0, 0, 0, 0, 1, 0, 0, 0, 0) ∷
-    (96, 11, 0, 0, 0, 0, 0, 1, 0, 1, 0, 0) ∷
-    (97, 11, 0, 0, 0, 0, 0, 1, 0, 1, 0, 0) ∷
-    (98, 11, 4, 4, 0, 7, 0, 1, 0, 0, 0, 0) ∷
-    (99, 11, 4, 4, 0, 7, 0, 1, 0, 1, 0, 0) ∷
-    (100, 11, 4, 4, 0, 7, 0, 1, 0, 1, 0, 0) ∷
-    (101, 11, 0, 0, 0, 0, 0, 1, 0, 0, 0, 0) ∷
-    (102, 11, 0, 0, 0, 0, 0, 1, 0, 1, 0, 0) ∷
-    (103, 11, 0, 0, 0, 0, 0, 1, 0, 1, 0, 0) ∷
-    (104, 11, 0, 0, 0, 0, 1, 0, 0, 0, 0, 0) ∷
-    (105, 11, 0, 0, 0, 0, 3, 0, 0, 0, 0, 0) ∷
-    (106, 11, 9, 0, 0, 0, 0, 0, 0, 0, 0, 0) ∷
-    (120, 11, 0, 0, 0, 0, 1, 1, 0, 0, 0, 0) ∷
-    (144, 11, 0, 0, 0, 0, 1, 0, 0, 0, 0, 0) ∷
-    (145, 11, 0, 0, 0, 0, 1, 0, 0, 0, 0, 32) ∷
-    (146, 11, 1, 0, 0, 0, 2, 0, 0, 0, 0, 16) ∷
-    (147, 11, 6, 0, 0, 0, 0, 0, 0, 0, 0, 0) ∷
-    (148, 11, 6, 0, 0, 0, 0, 0, 0, 0, 0, 0) ∷
-    (149, 11, 2, 0, 0, 0, 0, 0, 0, 0, 0, 0) ∷
-    (150, 11, 3, 3, 0, 4, 0, 0, 0, 0, 0, 0) ∷
-    (151, 11, 3, 3, 0, 4, 0, 0, 0, 0, 0, 0) ∷
-    (152, 11, 0, 0, 0, 0, 1, 0, 0, 0, 0, 0) ∷
-    (153, 11, 0, 0, 0, 0, 1, 0, 0, 0, 0, 0) ∷
-    (154, 11, 0, 0, 0, 0, 1, 0, 0, 0, 0, 0) ∷
-    (155, 11, 0, 0, 0, 0, 3, 0, 0, 0, 0, 0) ∷
-    (156, 11, 13, 5, 1, 10, 0, 1, 1, 0, 1, 0) ∷
-    (157, 16, 8, 0, 0, 0, 0, 1, 0, 0, 1, 0) ∷
-    (158, 16, 8, 0, 0, 0, 0, 1, 0, 1, 1, 0) ∷
-    (159, 11, 0, 0, 0, 0, 0, 1, 0, 1, 0, 0) ∷
-    (160, 11, 0, 0, 0, 0, 0, 1, 0, 2, 0, 0) ∷
-    (161, 11, 0, 0, 0, 0, 0, 1, 0, 0, 1, 0) ∷
-    (162, 11, 0, 0, 0, 0, 0, 1, 0, 1, 1, 0) ∷
-    (206, 11, 0, 0, 0, 0, 1, 0, 0, 0, 0, 0) ∷
+    0x0995B858 ∷
+    0x10800259 ∷
+    0x0884885A ∷
+    0x0280005B ∷
+    0x00000C5C ∷
+    0x00000C5D ∷
+    0x0020005E ∷
+    0x0080005F ∷
+    0x02800060 ∷
+    0x02800061 ∷
+    0x008E8862 ∷
+    0x028E8863 ∷
+    0x028E8864 ∷
+    0x00800065 ∷
+    0x02800066 ∷
+    0x02800067 ∷
+    0x00200068 ∷
+    0x00600069 ∷
+    0x0000126A ∷
+    0x00A00078 ∷
+    0x00200090 ∷
+    0x40200091 ∷
+    0x20400292 ∷
+    0x00000C93 ∷
+    0x00000C94 ∷
+    0x00000495 ∷
+    0x00086696 ∷
+    0x00086697 ∷
+    0x00200098 ∷
+    0x00200099 ∷
+    0x0020009A ∷
+    0x0060009B ∷
+    0x0995BA9C ∷
+    0x0880119D ∷
+    0x0A80119E ∷
+    0x0280009F ∷
+    0x048000A0 ∷
+    0x088000A1 ∷
+    0x0A8000A2 ∷
+    0x002000CE ∷
     []
 
 -- what a row tells, and what row i ought to
-abbrev told : Declaration → ℕ × Layout × List Bool × Bool
-told x = (x .0, meant (shapeOf x), checks (shapeOf x), leb (x .7) 1)
+abbrev told : ℕ → ℕ × Layout × List Bool
+told x = (x % 256, meant (shapeOf x), checks (shapeOf x))
 
-abbrev due : ℕ → ℕ × Layout × List Bool × Bool
-due i = (codeOf i, layout (codeOf i), passed, true)
+abbrev due : ℕ → ℕ × Layout × List Bool
+due i = (codeOf i, layout (codeOf i), passed)
 
 -- a table that tells what it ought to is right in each row
-right : (l : List Declaration) (z : Declaration) (i : ℕ) → map told l ≡ map due (numbers (length l) 0) → i < length l → Right i (getD l i z)
+right : (l : List ℕ) (z i : ℕ) → map told l ≡ map due (numbers (length l) 0) → i < length l → Right i (getD l i z)
 right l z i e h =
     let p : told (getD l i z) ≡ due i = at told due l z e i h in
-    record { code = ap (λ x. x .0) p; one = leb-true _ _ (ap (λ x. x .3) p); laid = record { meaning = ap (λ x. x .1) p; sound = sound (shapeOf (getD l i z)) (ap (λ x. x .2) p) } }
+    record { code = ap (λ x. x .0) p; laid = record { meaning = ap (λ x. x .1) p; sound = sound (shapeOf (getD l i z)) (ap (λ x. x .2) p) } }
 
 -- the rule of the whole table, computed once
-pub rule : (z : Declaration) (i : ℕ) → i < 40 → Right i (getD rows i z)
+pub rule : (z i : ℕ) → i < 40 → Right i (getD rows i z)
 unfolding rows numbers within lineOf operandCount inTable layout fieldOf itemsOf codeOf
 rule z i h = right rows z i refl h
 
@@ -122,7 +121,34 @@ row-code c h = go (ltb c 207) refl
     go false k = let m = ltb-false c 207 k in absurd (omega (arith, row-over c (omega arith) (λ e. omega arith)))
 
 -- so the row tells the code's layout
-pub of-row : (c i : ℕ) (x : Declaration) → i ≡ rowOf c → i < 40 → Right i x → Laid c (shapeOf x)
+pub of-row : (c i x : ℕ) → i ≡ rowOf c → i < 40 → Right i x → Laid c (shapeOf x)
 of-row c i x e h r =
     let k : codeOf i ≡ c = ap codeOf e ∙ row-code c (omega arith) in
     subst (λ n. Laid n (shapeOf x)) k (r .laid)
+
+-- no row is 0, which has no code
+pub declares-row : (c i x : ℕ) → i ≡ rowOf c → i < 40 → Right i x → Declares c x
+declares-row c i x e h r = record { laid = λ n. of-row c i x e h r; none = λ z. absurd (coded z) }
+  where
+    coded : x ≡ 0 → ⊥
+    coded z =
+        let k : codeOf i ≡ c = ap codeOf e ∙ row-code c (omega arith) in
+        let m : c ≡ 0 = omega (arith, r .code) in
+        omega (arith, row-under c (omega arith))
+
+rows-end : (c : ℕ) → rowOf c ≤ 40
+unfolding rowOf
+rows-end c = go (ltb c 88) refl (ltb c 107) refl (eqb c 120) (ltb c 144) (ltb c 163) refl (eqb c 206)
+  where
+    go : (a : Bool) → ltb c 88 ≡ a → (b : Bool) → ltb c 107 ≡ b → (d e : Bool) → (f : Bool) → ltb c 163 ≡ f → (g : Bool)
+        → cond a 40 (cond b (c - 88) (cond d 19 (cond e 40 (cond f (c - 124) (cond g 39 40))))) ≤ 40
+    go true p b q d e f r g = omega arith
+    go false p true q d e f r g = let m = ltb-true c 107 q in omega arith
+    go false p false q true e f r g = omega arith
+    go false p false q false true f r g = omega arith
+    go false p false q false false true r g = let m = ltb-true c 163 r in omega arith
+    go false p false q false false false r true = omega arith
+    go false p false q false false false r false = omega arith
+
+pub declares-none : (c i : ℕ) → i ≡ rowOf c → 40 ≤ i → Declares c 0
+declares-none c i e h = record { laid = λ n. absurd (n refl); none = λ z. omega (arith, rows-end c) }

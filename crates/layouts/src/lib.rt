@@ -1,11 +1,11 @@
 // The layout of every code: operand counts, the table of declarations, field bits.
 ghost use mathlib.Core.Path.{_≡_};
-ghost use Prim.Native.Nat.{_%_, _<_, _≤_};
+ghost use Prim.Native.Nat.{_<_, _≤_};
 ghost use mathlib.Core.Option.{none, some};
 ghost use Rattle.format.specs.Counts.{operandCount};
 ghost use Rattle.format.specs.Declarations.{fieldIn, inBounds};
 ghost use Rattle.layouts.specs.Shapes.{counted, fieldOf, Sound, Laid};
-ghost use Rattle.layouts.specs.Table.{rowOf, Right, shapeOf, plainShape, widthOf};
+ghost use Rattle.layouts.specs.Table.{rowOf, Right, Declares, shapeOf, plainShape, widthOf};
 
 // What stands beside a code and after its token. Field bits: width bits from bit first on; where bounded is above 0, that many bits from
 // bit 11 on hold lo to hi. Then dwords, operands, small dwords, dwords, dwords of model 5.1 alone, a list counted by list bits, and a tail.
@@ -25,116 +25,103 @@ pub struct Shape {
     pub tail: bool,
 }
 
-// A row of the table: a code, and its shape from first to list.
-pub struct Declaration(
-    pub u8,
-    pub u8,
-    pub u8,
-    pub u8,
-    pub u8,
-    pub u8,
-    pub u8,
-    pub u8,
-    pub u8,
-    pub u8,
-    pub u8,
-    pub u8,
-);
+// What is added to a code for each part of its shape: a first bit of 16 and not 11, each bit, bounded bit, lo, hi, dword before, operand,
+// small dword, dword after, dword of model 5.1, and each 16 list bits.
+const FIRST: u32 = 0x100;
 
-// The declarations: code, first bit, bits, bounded bits, lo, hi, dwords before, operands, small dwords, dwords after, model 5.1 dwords, list bits.
-const DECLARATIONS: [Declaration; 40] = [
-    Declaration(88, 11, 12, 5, 1, 10, 0, 1, 1, 0, 1, 0),
-    Declaration(89, 11, 1, 0, 0, 0, 0, 1, 0, 0, 2, 0),
-    Declaration(90, 11, 4, 4, 0, 2, 0, 1, 0, 0, 1, 0),
-    Declaration(91, 11, 0, 0, 0, 0, 0, 1, 0, 1, 0, 0),
-    Declaration(92, 11, 6, 0, 0, 0, 0, 0, 0, 0, 0, 0),
-    Declaration(93, 11, 6, 0, 0, 0, 0, 0, 0, 0, 0, 0),
-    Declaration(94, 11, 0, 0, 0, 0, 1, 0, 0, 0, 0, 0),
-    Declaration(95, 11, 0, 0, 0, 0, 0, 1, 0, 0, 0, 0),
-    Declaration(96, 11, 0, 0, 0, 0, 0, 1, 0, 1, 0, 0),
-    Declaration(97, 11, 0, 0, 0, 0, 0, 1, 0, 1, 0, 0),
-    Declaration(98, 11, 4, 4, 0, 7, 0, 1, 0, 0, 0, 0),
-    Declaration(99, 11, 4, 4, 0, 7, 0, 1, 0, 1, 0, 0),
-    Declaration(100, 11, 4, 4, 0, 7, 0, 1, 0, 1, 0, 0),
-    Declaration(101, 11, 0, 0, 0, 0, 0, 1, 0, 0, 0, 0),
-    Declaration(102, 11, 0, 0, 0, 0, 0, 1, 0, 1, 0, 0),
-    Declaration(103, 11, 0, 0, 0, 0, 0, 1, 0, 1, 0, 0),
-    Declaration(104, 11, 0, 0, 0, 0, 1, 0, 0, 0, 0, 0),
-    Declaration(105, 11, 0, 0, 0, 0, 3, 0, 0, 0, 0, 0),
-    Declaration(106, 11, 9, 0, 0, 0, 0, 0, 0, 0, 0, 0),
-    Declaration(120, 11, 0, 0, 0, 0, 1, 1, 0, 0, 0, 0),
-    Declaration(144, 11, 0, 0, 0, 0, 1, 0, 0, 0, 0, 0),
-    Declaration(145, 11, 0, 0, 0, 0, 1, 0, 0, 0, 0, 32),
-    Declaration(146, 11, 1, 0, 0, 0, 2, 0, 0, 0, 0, 16),
-    Declaration(147, 11, 6, 0, 0, 0, 0, 0, 0, 0, 0, 0),
-    Declaration(148, 11, 6, 0, 0, 0, 0, 0, 0, 0, 0, 0),
-    Declaration(149, 11, 2, 0, 0, 0, 0, 0, 0, 0, 0, 0),
-    Declaration(150, 11, 3, 3, 0, 4, 0, 0, 0, 0, 0, 0),
-    Declaration(151, 11, 3, 3, 0, 4, 0, 0, 0, 0, 0, 0),
-    Declaration(152, 11, 0, 0, 0, 0, 1, 0, 0, 0, 0, 0),
-    Declaration(153, 11, 0, 0, 0, 0, 1, 0, 0, 0, 0, 0),
-    Declaration(154, 11, 0, 0, 0, 0, 1, 0, 0, 0, 0, 0),
-    Declaration(155, 11, 0, 0, 0, 0, 3, 0, 0, 0, 0, 0),
-    Declaration(156, 11, 13, 5, 1, 10, 0, 1, 1, 0, 1, 0),
-    Declaration(157, 16, 8, 0, 0, 0, 0, 1, 0, 0, 1, 0),
-    Declaration(158, 16, 8, 0, 0, 0, 0, 1, 0, 1, 1, 0),
-    Declaration(159, 11, 0, 0, 0, 0, 0, 1, 0, 1, 0, 0),
-    Declaration(160, 11, 0, 0, 0, 0, 0, 1, 0, 2, 0, 0),
-    Declaration(161, 11, 0, 0, 0, 0, 0, 1, 0, 0, 1, 0),
-    Declaration(162, 11, 0, 0, 0, 0, 0, 1, 0, 1, 1, 0),
-    Declaration(206, 11, 0, 0, 0, 0, 1, 0, 0, 0, 0, 0),
+const WIDTH: u32 = 0x200;
+
+const BOUNDED: u32 = 0x2000;
+
+const LO: u32 = 0x1_0000;
+
+const HI: u32 = 0x2_0000;
+
+const BEFORE: u32 = 0x20_0000;
+
+const OPERAND: u32 = 0x80_0000;
+
+const SMALL: u32 = 0x100_0000;
+
+const AFTER: u32 = 0x200_0000;
+
+const EXTRA: u32 = 0x800_0000;
+
+const LIST: u32 = 0x2000_0000;
+
+// The declarations, a code and its shape in each row.
+const DECLARATIONS: [u32; 40] = [
+    88 + 12 * WIDTH + 5 * BOUNDED + LO + 10 * HI + OPERAND + SMALL + EXTRA,
+    89 + WIDTH + OPERAND + 2 * EXTRA,
+    90 + 4 * WIDTH + 4 * BOUNDED + 2 * HI + OPERAND + EXTRA,
+    91 + OPERAND + AFTER,
+    92 + 6 * WIDTH,
+    93 + 6 * WIDTH,
+    94 + BEFORE,
+    95 + OPERAND,
+    96 + OPERAND + AFTER,
+    97 + OPERAND + AFTER,
+    98 + 4 * WIDTH + 4 * BOUNDED + 7 * HI + OPERAND,
+    99 + 4 * WIDTH + 4 * BOUNDED + 7 * HI + OPERAND + AFTER,
+    100 + 4 * WIDTH + 4 * BOUNDED + 7 * HI + OPERAND + AFTER,
+    101 + OPERAND,
+    102 + OPERAND + AFTER,
+    103 + OPERAND + AFTER,
+    104 + BEFORE,
+    105 + 3 * BEFORE,
+    106 + 9 * WIDTH,
+    120 + BEFORE + OPERAND,
+    144 + BEFORE,
+    145 + BEFORE + 2 * LIST,
+    146 + WIDTH + 2 * BEFORE + LIST,
+    147 + 6 * WIDTH,
+    148 + 6 * WIDTH,
+    149 + 2 * WIDTH,
+    150 + 3 * WIDTH + 3 * BOUNDED + 4 * HI,
+    151 + 3 * WIDTH + 3 * BOUNDED + 4 * HI,
+    152 + BEFORE,
+    153 + BEFORE,
+    154 + BEFORE,
+    155 + 3 * BEFORE,
+    156 + 13 * WIDTH + 5 * BOUNDED + LO + 10 * HI + OPERAND + SMALL + EXTRA,
+    157 + FIRST + 8 * WIDTH + OPERAND + EXTRA,
+    158 + FIRST + 8 * WIDTH + OPERAND + AFTER + EXTRA,
+    159 + OPERAND + AFTER,
+    160 + OPERAND + 2 * AFTER,
+    161 + OPERAND + EXTRA,
+    162 + OPERAND + AFTER + EXTRA,
+    206 + BEFORE,
 ];
 
-// The operand count of an even code.
-fn even_count(code: u32) -> u32
-    requires { ⌜ code % 2 ≡ 0 ⌝ }
+// A code's operand count, by comparisons; 7: it has none. Even and odd codes stand in arms of their own: neighbours in one arm would be
+// compared as a range, and one range after the other, where single codes become one table.
+pub fn operand_count(code: u32) -> u32
     ensures { λ r. ⌜ r ≡ counted (operandCount code) ⌝ }
 {
     match code {
         2 | 10 | 18 | 20 | 22 | 48 | 58 | 62 | 190 => 0,
+        7 | 9 | 19 | 21 | 23 => 0,
         4 | 6 | 8 | 44 | 76 | 118 => 1,
+        3 | 13 | 31 | 63 | 117 | 119 | 143 => 1,
         12 | 26 | 28 | 40 | 54 | 64 | 66 | 68 | 86 | 122 => 2,
         124 | 130 | 134 | 136 | 178 | 202 | 212 | 214 | 216 => 2,
-        0 | 14 | 16 | 24 | 30 | 32 | 34 | 36 | 42 | 52 | 56 | 60 | 80 => 3,
-        84 | 110 | 164 | 166 | 170 | 174 | 176 | 192 | 194 | 196 | 198 | 204 | 210 => 3,
-        38 | 46 | 50 | 78 | 82 | 108 | 132 | 138 => 4,
-        168 | 172 | 180 | 182 | 184 | 186 | 188 | 200 => 4,
-        70 | 72 | 74 | 126 | 140 | 142 => 5,
-        128 => 6,
-        _ => 7,
-    }
-}
-
-// The operand count of an odd code.
-fn odd_count(code: u32) -> u32
-    requires { ⌜ code % 2 ≡ 1 ⌝ }
-    ensures { λ r. ⌜ r ≡ counted (operandCount code) ⌝ }
-{
-    match code {
-        7 | 9 | 19 | 21 | 23 => 0,
-        3 | 13 | 31 | 63 | 117 | 119 | 143 => 1,
         5 | 11 | 25 | 27 | 43 | 47 | 59 | 65 | 67 | 75 | 111 | 121 | 123 => 2,
         125 | 129 | 131 | 135 | 137 | 141 | 179 | 199 | 201 | 205 | 215 | 217 => 2,
+        0 | 14 | 16 | 24 | 30 | 32 | 34 | 36 | 42 | 52 | 56 | 60 | 80 => 3,
+        84 | 110 | 164 | 166 | 170 | 174 | 176 | 192 | 194 | 196 | 198 | 204 | 210 => 3,
         1 | 15 | 17 | 29 | 33 | 37 | 39 | 41 | 45 | 49 => 3,
         51 | 57 | 61 | 77 | 79 | 83 | 85 | 87 | 163 | 165 => 3,
         169 | 171 | 173 | 175 | 177 | 191 | 193 | 195 | 197 | 203 => 3,
+        38 | 46 | 50 | 78 | 82 | 108 | 132 | 138 => 4,
+        168 | 172 | 180 | 182 | 184 | 186 | 188 | 200 => 4,
         35 | 55 | 69 | 81 | 109 | 133 | 139 => 4,
         167 | 181 | 183 | 187 | 189 | 211 | 213 => 4,
+        70 | 72 | 74 | 126 | 140 | 142 => 5,
         71 | 127 | 185 => 5,
+        128 => 6,
         73 => 6,
         _ => 7,
     }
-}
-
-// A code's operand count, by comparisons; 7: it has none. Even and odd codes stand apart: neighbours would be compared as a range, and
-// one range after the other, where single codes become one jump.
-pub fn operand_count(code: u32) -> u32
-    ensures { λ r. ⌜ r ≡ counted (operandCount code) ⌝ }
-{
-    if code % 2 == 0 {
-        return even_count(code);
-    }
-    odd_count(code)
 }
 
 // The row of a declaration's code: 88 to 106, 120, 144 to 162, 206. 40: the code declares nothing.
@@ -164,30 +151,41 @@ fn row_of(code: u32) -> usize
 }
 
 // A row of the table, which tells its code's layout.
-fn row_at(row: usize) -> Declaration
+fn row_at(row: usize) -> u32
     requires { ⌜ row < 40 ⌝ }
     ensures { λ r. ⌜ Right row r ⌝ }
 {
     DECLARATIONS[row]
 }
 
+// A declaration's row of the table; 0: the code declares nothing.
+pub fn declaration(code: u32) -> u32
+    ensures { λ r. ⌜ Declares code r ⌝ }
+{
+    let row = row_of(code);
+    if row < 40 {
+        return row_at(row);
+    }
+    0
+}
+
 // The shape that a row tells.
-fn declared(d: Declaration) -> Shape
+pub fn declared(d: u32) -> Shape
     ensures { λ r. ⌜ r ≡ shapeOf d ⌝ }
 {
     Shape {
         kind: 4,
-        first: d.1 as u32,
-        width: d.2 as u32,
-        bounded: d.3 as u32,
-        lo: d.4 as u32,
-        hi: d.5 as u32,
-        before: d.6 as u32,
-        operands: d.7 as u32,
-        small: d.8 as u32,
-        after: d.9 as u32,
-        extra: d.10 as u32,
-        list: d.11 as u32,
+        first: 11 + d / FIRST % 2 * 5,
+        width: d / WIDTH % 16,
+        bounded: d / BOUNDED % 8,
+        lo: d / LO % 2,
+        hi: d / HI % 16,
+        before: d / BEFORE % 4,
+        operands: d / OPERAND % 2,
+        small: d / SMALL % 2,
+        after: d / AFTER % 4,
+        extra: d / EXTRA % 4,
+        list: d / LIST % 4 * 16,
         tail: false,
     }
 }
@@ -234,7 +232,8 @@ pub fn counted_layout(code: u32, n: u32) -> Shape
     plain(1, counted_width(code), n, true)
 }
 
-// The layout of a code without a count: a declaration, a phase, custom data or an opaque one. It has one operand at most.
+// The layout of a code without a count: a declaration, a phase, custom data or an opaque one. It has one operand at most. By its row and not
+// by `declaration`, which would make it small enough to be copied into its callers, and them slower.
 pub fn uncounted_layout(code: u32) -> Shape
     requires { ⌜ operandCount code ≡ none ⌝ }
     ensures { λ r. ⌜ Laid code r × (r .operands ≤ 1) ⌝ }

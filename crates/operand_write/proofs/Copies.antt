@@ -1,8 +1,8 @@
 -- Laws of dwords that are copied to the front of a list.
 use Prim.Native.Nat.{ℕ, _+_, _<_, _≤_}
-use mathlib.Core.Path.{_≡_, _∙_}
+use mathlib.Core.Path.{_≡_, refl, _∙_}
 use mathlib.Core.List.{List, _++_}
-use native.Mathlib.Nat.{zero-add}
+use native.Mathlib.Nat.{add-zero, zero-add}
 use native.Mathlib.Numerals.{add-one}
 use native.Mathlib.Omega.{arith}
 use lib.ListN.{length, take, drop, getD, set, length-drop, length-set}
@@ -25,3 +25,10 @@ copies {ds} {ws₀} {ws} {at} {n} {i} g h l k x ex =
       within = omega arith;
       long = length-set ws i x ∙ g .long;
     }
+
+-- few dwords, one by one
+pub first : {ds ws : List ℕ} {at n : ℕ} → at + n ≤ length ds → n ≤ length ws → 0 < n → (x : ℕ) → x ≡ getD ds at 0 → Copying ds ws at n 1 (set ws 0 x)
+first {ds} {ws} {at} {n} h l k x ex = copies {i = 0} (record { is = refl; within = omega arith; long = refl }) h l k x (rw (add-zero at) ex)
+
+pub done : {ds ws₀ ws : List ℕ} {at n i : ℕ} → Copying ds ws₀ at n i ws → n ≡ i → ws ≡ take n (drop at ds) ++ drop n ws₀
+done g e = rw e (g .is)

@@ -1,18 +1,19 @@
 -- How a reading that was accepted is taken apart.
-use Prim.Native.Nat.{ℕ, zero, suc, _+_, _-_, _^_, _<_, _≤_}
+use Prim.Native.Nat.{ℕ, zero, suc, _+_, _-_, _/_, _%_, _^_, _<_, _≤_}
 use mathlib.Core.Path.{_≡_, refl, sym, _∙_, ap}
 use mathlib.Core.Bool.{Bool, true, false}
-use mathlib.Core.List.{List, [], _++_}
+use mathlib.Core.List.{List, [], _∷_, _++_}
 use native.Mathlib.Omega.{arith}
 use lib.ListN.{length, getD, take, drop}
 use lib.Seq.{slice, slice-empty}
 use lib.Dec.{ltb, eqb}
-use borrow.Author.Tests.{ltb-true, ltb-false, eqb-true}
+use borrow.Author.Tests.{ltb-true, ltb-false, eqb-true, eq-eqb}
 use Rattle.format.specs.Dwords.{follows, Got, malformed, got, Reader, then, give, some, chain}
-use Rattle.format.specs.Operands.{Tree, none, plain, node, immediates, dimension, repr, own, nests, known, readIndex, readImmediates, readIndices, operand, dwords, modifiers}
+use Rattle.format.specs.Operands.{Tree, none, plain, node, immediate, immediates, dimension, repr, own, nests, known, readIndex, readImmediates, readIndices, operand, dwords, modifiers}
 use Rattle.format.proofs.Dwords.{met, Makes, impossible}
 use Rattle.tokens.specs.Chains.{ends}
 use Rattle.tokens.specs.declared.Skip.the-variants.{To, Off}
+use Rattle.tokens.proofs.Chains.{Going, goes-on, ended, ran-off as off, some-modifiers}
 use Rattle.tokens.proofs.Places.{some-whole, some-short, left-at, read-within, Passed, passed, ran-off}
 use Rattle.operand.specs.Measures.{Flat}
 use Rattle.operand.proofs.Fronts.{body, operand-some, operand-end, no-chain, low-ends}
@@ -182,3 +183,36 @@ node-of k ds t e b tree r h q = first (readIndex (operand k) (repr 0 t) (drop b 
     first : (g : Got Tree) → readIndex (operand k) (repr 0 t) (drop b ds) ≡ g → Node k ds t e b tree
     first malformed q₀ = never (rw q₀ at q)
     first (got x u) q₀ = second x u q₀ (readIndex (operand k) (repr 1 t) u) refl
+
+-- with an index, an operand that was read has no immediates
+pub not-immediate : {left : ℕ} {ds : List ℕ} {at t b x : ℕ} → Entered left ds at t b x → {tree : Tree} {r : List ℕ} → operand left (drop at ds) ≡ got tree r → dimension t ≡ 1 → immediate t ≡ false
+unfolding readImmediates
+not-immediate {left} {ds} {at} {t} {b} o e d = go (immediate t) refl
+  where
+    go : (m : Bool) → immediate t ≡ m → m ≡ false
+    go false q = refl
+    go true q = let z : operand left (drop at ds) ≡ malformed = o .is ∙ rw (q, d) in never (sym z ∙ e)
+
+-- a dword with bit 31, and one index in its bits 20 to 30
+pub top-follows : (t : ℕ) → t / 0x100000 ≡ 0x801 → follows t ≡ true
+unfolding follows
+top-follows t h = eq-eqb (t / 2 ^ 31 % 2) 1 (omega arith)
+
+-- an operand whose dword t has a follower that is the last: its one extension
+module _ (left : ℕ) (ds : List ℕ) (at : ℕ) {tree : Tree} {r : List ℕ} (e : operand left (drop at ds) ≡ got tree r) (t : ℕ) (et : t ≡ getD ds at 0) (f : follows t ≡ true) where
+  going : Going ds (at + 1) (length ds) (at + 1) true true
+  going = record { count = refl; same = refl }
+
+  pub more-there : at + 1 < length ds
+  more-there = go (ltb (at + 1) (length ds)) refl
+    where
+      go : (b : Bool) → ltb (at + 1) (length ds) ≡ b → at + 1 < length ds
+      go true q = ltb-true (at + 1) (length ds) q
+      go false q = absurd (not-off left ds at e t et true (sym f) (off going refl (ltb-false (at + 1) (length ds) q)))
+
+  pub once-entered : (x : ℕ) → x ≡ getD ds (at + 1) 0 → follows x ≡ false → (m : ℕ) → m ≡ modifiers (x ∷ []) → Entered left ds at t (at + 2) m
+  once-entered x ex n m em =
+      let two : at + 1 + 1 ≡ at + 2 = omega arith in
+      let g : To (at + 2) ≡ ends (at + 1) (chain true (drop (at + 1) ds)) = rw two at (ended (goes-on going refl more-there x ex false (sym n)) refl) in
+      let w = passed true ds (at + 1) (at + 2) (omega (arith, more-there)) g in
+      entered left ds at e t et true (sym f) (at + 2) w m (some-modifiers ds (at + 1) (at + 2) (omega arith) (w .within) (λ z. omega arith) x m ex em)

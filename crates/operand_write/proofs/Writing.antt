@@ -1,27 +1,28 @@
 -- Laws of what is written of an operand.
-use Prim.Native.Nat.{ℕ, _+_, _-_, _*_, _^_, _<_, _≤_}
+use Prim.Native.Nat.{ℕ, _+_, _-_, _*_, _/_, _^_, _<_, _≤_}
 use mathlib.Core.Path.{_≡_, refl, sym, _∙_, ap, subst}
-use mathlib.Core.Bool.{Bool, true, false, not}
+use mathlib.Core.Bool.{Bool, true, false, not, _&&_}
 use mathlib.Core.List.{List, [], _∷_, _++_, append-assoc, append-nil}
 use native.Mathlib.Omega.{arith}
 use lib.ListN.{length, take, drop, length-append, getD, set}
 use lib.Seq.{slice, length-slice, drop-cons}
-use lib.Dec.{ltb}
+use lib.Dec.{eqb, ltb}
 use borrow.Rule.Slice.PartMut.{putMid}
-use borrow.Author.Tests.{ltb-true, ltb-false, not-true, not-false}
+use borrow.Author.Tests.{eqb-true, ltb-true, ltb-false, not-true, not-false}
 use Rattle.format.specs.Dwords.{Got, got}
-use Rattle.format.specs.Operands.{Tree, none, plain, node, typeOf, form, selection, immediate, immediates, dimension, reprs, repr, own, nests, readIndex, readImmediates, readIndices, operand, dwords, modifiers}
+use Rattle.format.specs.Operands.{Tree, none, plain, node, typeOf, form, selection, immediate, immediates, dimension, reprs, repr, own, nests, readIndex, readImmediates, readIndices, operand, dwords, modifiers, exactDword}
 use Rattle.format.specs.Rows.{placed, wordPlace, childRow, treeRows, treeWords, treeTable, operandRow}
-use Rattle.format.proofs.Dwords.{impossible}
+use Rattle.format.proofs.Dwords.{impossible, both}
 use Rattle.format.proofs.Rows.{table-length}
 use Rattle.tokens.proofs.Places.{some-length}
 use Rattle.operand.specs.Measures.{Flat}
+use Rattle.operand.proofs.Fronts.{low-flat}
 use Rattle.operand.proofs.FlatTrees.{flatTree, flat-words, flat-dwords, past-dim, in-dim, flat-reprs}
 use Rattle.operand.proofs.Seen.{Seen}
 use Rattle.operand_write.specs.Writes.{rowFor, loneRow, leafRow, flatRow, Fits, Front, Lone, Stored, Room, Put, Wrote, Over, OwnRoom, Owned, Ready, Next, WroteNext}
 use Rattle.operand_write.specs.declared.Sums.{Sums}
 use Rattle.operand_write.proofs.Lists.{lent-length, back, over-none, over-more, over-front, row-before}
-use Rattle.operand_write.proofs.Readings.{Entered, leaf-of, flat-of, Index, index-of, Node, node-of}
+use Rattle.operand_write.proofs.Readings.{Entered, low-entered, not-immediate, leaf-of, flat-of, Index, index-of, Node, node-of}
 
 -- one reading in place of another that is the same
 pub room-at : {g h : Got Tree} {ops ws row word : ℕ} → g ≡ h → Room g ops ws row word → Room h ops ws row word
@@ -202,6 +203,32 @@ module _ {left : ℕ} {ds : List ℕ} {at t b x : ℕ} (o : Entered left ds at t
       pub flat-wrote : {a : Sums} {L W L′ W′ : List ℕ} → Stored ds at b (dimension t) (flatRow t x word (b - at + dimension t)) L W a L′ W′ → Wrote (operand left (drop at ds)) row word L W a L′ W′
       flat-wrote s = alone-wrote (o .front) q flat-alone s
 
+-- an operand whose dword t is short: exact, with one index of one dword and no extensions
+module _ (left : ℕ) (ds : List ℕ) (at : ℕ) {ops ws row word : ℕ} (q : Room (operand left (drop at ds)) ops ws row word) (t : ℕ) (et : t ≡ getD ds at 0) {b : Bool} (eb : b ≡ (eqb (t / 0x100000) 1 && exactDword t)) (h : b ≡ true) where
+  said : (eqb (t / 0x100000) 1 ≡ true) × (exactDword t ≡ true)
+  said = both (eqb (t / 0x100000) 1) (exactDword t) (sym eb ∙ h)
+
+  top : t / 0x100000 ≡ 1
+  top = eqb-true (t / 0x100000) 1 (said .0)
+
+  low : t < 2 ^ 22
+  low = omega (arith, top)
+
+  one-index : dimension t ≡ 1
+  one-index = omega (arith, top)
+
+  front : Entered left ds at t (at + 1) 0
+  front = low-entered left ds at (q .is) t et low
+
+  unimmediate : false ≡ immediate t
+  unimmediate = sym (not-immediate front (q .is) one-index)
+
+  pub short-room : (dimension t ≡ 1) × (exactDword t ≡ true) × Lone (length ds) at (at + 1) (dimension t) ops ws word
+  short-room = (one-index, said .1, flat-room front q false unimmediate refl (low-flat t low))
+
+  pub short-wrote : {a : Sums} {L W L′ W′ : List ℕ} → Stored ds at (at + 1) (dimension t) (flatRow t 0 word (at + 1 - at + dimension t)) L W a L′ W′ → Wrote (operand left (drop at ds)) row word L W a L′ W′
+  short-wrote s = flat-wrote front q false unimmediate refl (low-flat t low) s
+
 -- the code's rows and words of an operand with no operand in it
 module _ (ds : List ℕ) (at b x t word n : ℕ) {L W L′ W′ : List ℕ} {s : Sums} (e₀ : s .rows ≡ 1) (e₁ : s .words ≡ n) (e₂ : s .dwords ≡ b - at + n) (R : List ℕ) (el : L′ ≡ R ++ drop 16 L) (ew : W′ ≡ take n (drop b ds) ++ drop n W) where
   stored : (k : ℕ) → n ≡ k → (Q : List ℕ) → R ≡ Q → Stored ds at b k Q L W s L′ W′
@@ -228,17 +255,26 @@ module _ (ds : List ℕ) (at b x t word n : ℕ) {L W L′ W′ : List ℕ} {s :
       (er ∙ (λ i. loneRow t x 0 0 n (f₀ i) (f₁ i) (f₂ i) (b - at + n)) ∙ ap (λ (k : ℕ). loneRow t x 0 0 k (placed (ltb 0 k) word) (placed (ltb 1 k) (word + 1)) (placed (ltb 2 k) (word + 2)) (b - at + k)) en)
 
 -- and of one with one index
-pub single-stored : (ds : List ℕ) (at t word : ℕ) → dimension t ≡ 1 → at + 1 < length ds → {L W L′ : List ℕ} {s : Sums} → 0 < length W → s .rows ≡ 1 → s .words ≡ 1 → s .dwords ≡ 2
-    → (R : List ℕ) → R ≡ loneRow t 0 0 0 1 word 0 0 2 → L′ ≡ R ++ drop 16 L → (x : ℕ) → x ≡ getD ds (at + 1) 0
-    → Stored ds at (at + 1) (dimension t) (flatRow t 0 word (at + 1 - at + dimension t)) L W s L′ (set W 0 x)
-single-stored ds at t word d h {L} {W} l e₀ e₁ e₂ R er el x ex =
-    let k : take 1 (drop (at + 1) ds) ≡ x ∷ [] = ap (take 1) (drop-cons ds (at + 1) 0 h) ∙ ap (λ (i : ℕ). i ∷ []) (sym ex) in
-    let n : 2 ≡ at + 1 - at + 1 = omega arith in
-    flat-stored ds at (at + 1) 0 t word 1 e₀ e₁ (e₂ ∙ n) R el (rw k (first W l)) (sym d) word 0 0 refl refl refl (er ∙ ap (loneRow t 0 0 0 1 word 0 0) n)
+indexed-stored : (ds : List ℕ) (at b m t word k : ℕ) → dimension t ≡ 1 → b < length ds → k ≡ b - at + 1 → {L W L′ : List ℕ} {s : Sums} → 0 < length W → s .rows ≡ 1 → s .words ≡ 1 → s .dwords ≡ k
+    → (R : List ℕ) → R ≡ loneRow t m 0 0 1 word 0 0 k → L′ ≡ R ++ drop 16 L → (x : ℕ) → x ≡ getD ds b 0
+    → Stored ds at b (dimension t) (flatRow t m word (b - at + dimension t)) L W s L′ (set W 0 x)
+indexed-stored ds at b m t word k d h n {L} {W} l e₀ e₁ e₂ R er el x ex =
+    let j : take 1 (drop b ds) ≡ x ∷ [] = ap (take 1) (drop-cons ds b 0 h) ∙ ap (λ (i : ℕ). i ∷ []) (sym ex) in
+    flat-stored ds at b m t word 1 e₀ e₁ (e₂ ∙ n) R el (rw j (first W l)) (sym d) word 0 0 refl refl refl (er ∙ ap (loneRow t m 0 0 1 word 0 0) n)
   where
     first : (W : List ℕ) → 0 < length W → set W 0 x ≡ x ∷ [] ++ drop 1 W
     first [] h = impossible (omega arith)
     first (y ∷ W) h = refl
+
+module _ (ds : List ℕ) (at t word : ℕ) (d : dimension t ≡ 1) {L W L′ : List ℕ} {s : Sums} (l : 0 < length W) (e₀ : s .rows ≡ 1) (e₁ : s .words ≡ 1) (R : List ℕ) (el : L′ ≡ R ++ drop 16 L) (x : ℕ) where
+  pub single-stored : at + 1 < length ds → s .dwords ≡ 2 → R ≡ loneRow t 0 0 0 1 word 0 0 2 → x ≡ getD ds (at + 1) 0 → Stored ds at (at + 1) (dimension t) (flatRow t 0 word (at + 1 - at + dimension t)) L W s L′ (set W 0 x)
+  single-stored h e₂ er ex = indexed-stored ds at (at + 1) 0 t word 2 d h (omega arith) l e₀ e₁ e₂ R er el x ex
+
+  pub modified-stored : (y k : ℕ) → y ≡ getD ds (at + 1) 0 → k ≡ modifiers (y ∷ []) → at + 2 < length ds → s .dwords ≡ 3 → R ≡ loneRow t k 0 0 1 word 0 0 3 → x ≡ getD ds (at + 2) 0
+      → Stored ds at (at + 2) (dimension t) (flatRow t (modifiers (getD ds (at + 1) 0 ∷ [])) word (at + 2 - at + dimension t)) L W s L′ (set W 0 x)
+  modified-stored y k ey ek h e₂ er ex =
+      let q : k ≡ modifiers (getD ds (at + 1) 0 ∷ []) = ek ∙ ap (λ (i : ℕ). modifiers (i ∷ [])) ey in
+      indexed-stored ds at (at + 2) (modifiers (getD ds (at + 1) 0 ∷ [])) t word 3 d h (omega arith) l e₀ e₁ e₂ R (er ∙ ap (λ (i : ℕ). loneRow t i 0 0 1 word 0 0 3) q) el x ex
 
 -- an index
 pub owned-put : (ds : List ℕ) (at o r : ℕ) → o ≡ own r → {b s : Sums} {W ys : List ℕ} {n : ℕ} → OwnRoom (length ds) at (own r) n b → s .rows ≡ b .rows → s .words ≡ b .words + o → s .dwords ≡ b .dwords + o

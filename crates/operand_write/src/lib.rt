@@ -2,9 +2,9 @@
 use tokens::Skip;
 ghost use mathlib.Core.Path.{_≡_};
 ghost use mathlib.Core.Bool.{true};
-ghost use mathlib.Core.List.{_++_};
+ghost use mathlib.Core.List.{[], _∷_, _++_};
 ghost use Prim.Native.Nat.{_+_, _-_, _<_, _≤_, _^_};
-ghost use lib.ListN.{length, drop, take};
+ghost use lib.ListN.{length, getD, drop, take};
 ghost use lib.Seq.{slice};
 ghost use Rattle.format.specs.Dwords.{dwordsOf};
 ghost use Rattle.format.specs.Operands as op;
@@ -70,6 +70,29 @@ pub fn copy(part: &[u8], at: usize, n: usize, words: &mut [u32])
         words[i] = tokens::dword(part, at + i);
         i += 1;
     }
+}
+
+// Copies four dwords at most, one by one.
+fn copy_few(part: &[u8], at: usize, n: usize, words: &mut [u32])
+    requires { ⌜ (at + n ≤ length (dwordsOf (now part))) × (n ≤ length (now words)) × (n ≤ 4) ⌝ }
+    ensures { λ _. ⌜ now (words .exit) ≡ take n (drop at (dwordsOf (now (part .entry)))) ++ drop n (now (words .entry)) ⌝ }
+{
+    if n == 0 {
+        return;
+    }
+    words[0] = tokens::dword(part, at);
+    if n == 1 {
+        return;
+    }
+    words[1] = tokens::dword(part, at + 1);
+    if n == 2 {
+        return;
+    }
+    words[2] = tokens::dword(part, at + 2);
+    if n == 3 {
+        return;
+    }
+    words[3] = tokens::dword(part, at + 3);
 }
 
 // A place, if it is used.
@@ -142,6 +165,31 @@ fn lone_row(
     }
 }
 
+// The row of an operand whose dword is exact, with one index of one dword and no extensions.
+fn short_row(token: u32, w0: u32) -> Row
+    requires { ⌜ op.exactDword token ≡ true ⌝ }
+    ensures { λ r. ⌜ w.listed r ≡ w.loneRow token 0 0 0 1 w0 0 0 2 ⌝ }
+{
+    Row {
+        kind: tokens::type_of(token),
+        form: tokens::form(token),
+        selection: token / 16 % 256,
+        modifiers: 0,
+        imm: 0,
+        imms: 0,
+        dimension: 1,
+        reprs: 0,
+        w0,
+        w1: 0,
+        w2: 0,
+        c0: 0,
+        c1: 0,
+        c2: 0,
+        rows: 1,
+        dwords: 2,
+    }
+}
+
 // Writes an operand of immediates, whose front is read.
 fn leaf(
     part: &[u8],
@@ -157,7 +205,7 @@ fn leaf(
     ensures { λ a. ⌜ w.Stored (dwordsOf (now (part .entry))) at body (op.immediates token) (w.leafRow token modifiers word (body - at + op.immediates token)) (now (ops .entry)) (now (words .entry)) a (now (ops .exit)) (now (words .exit)) ⌝ }
 {
     let n = tokens::immediates(token);
-    copy(part, body, n, words);
+    copy_few(part, body, n, words);
     let dwords = body - at + n;
     let place = placed(0 < n, word);
     put_row(
@@ -187,7 +235,7 @@ fn flat(
 {
     let d = tokens::dimension(token);
     let n = d as usize;
-    copy(part, body, n, words);
+    copy_few(part, body, n, words);
     let dwords = body - at + n;
     let w0 = placed(0 < n, word);
     let w1 = placed(1 < n, word + 1);
@@ -203,7 +251,7 @@ fn flat(
     }
 }
 
-// Writes an operand with one index of one dword, and no extensions.
+// Writes an operand whose dword is exact, with one index of one dword and no extensions.
 fn single(
     part: &[u8],
     at: usize,
@@ -212,11 +260,11 @@ fn single(
     words: &mut [u32],
     word: usize,
 ) -> Sums
-    requires { ⌜ (op.dimension token ≡ 1) × w.Lone (length (dwordsOf (now part))) at (at + 1) (op.dimension token) (length (now ops)) (length (now words)) word ⌝ }
+    requires { ⌜ (op.dimension token ≡ 1) × (op.exactDword token ≡ true) × w.Lone (length (dwordsOf (now part))) at (at + 1) (op.dimension token) (length (now ops)) (length (now words)) word ⌝ }
     ensures { λ a. ⌜ w.Stored (dwordsOf (now (part .entry))) at (at + 1) (op.dimension token) (w.flatRow token 0 word (at + 1 - at + op.dimension token)) (now (ops .entry)) (now (words .entry)) a (now (ops .exit)) (now (words .exit)) ⌝ }
 {
     words[0] = tokens::dword(part, at + 1);
-    put_row(ops, lone_row(token, 0, 0, 0, 1, word as u32, 0, 0, 2));
+    put_row(ops, short_row(token, word as u32));
     Sums {
         rows: 1,
         words: 1,
@@ -343,7 +391,52 @@ pub fn deep(
     tree(part, at, token, body, x, left, ops, words, row, word)
 }
 
-// Writes an operand that was measured, at a place, with so many depths left. Most have neither extensions nor
+// Writes an operand with one extension, and behind it one index of one dword.
+fn modified(
+    part: &[u8],
+    at: usize,
+    token: u32,
+    ops: &mut [u32],
+    words: &mut [u32],
+    word: usize,
+) -> Sums
+    requires { ⌜ (op.dimension token ≡ 1) × w.Lone (length (dwordsOf (now part))) at (at + 2) (op.dimension token) (length (now ops)) (length (now words)) word ⌝ }
+    ensures { λ a. ⌜ w.Stored (dwordsOf (now (part .entry))) at (at + 2) (op.dimension token) (w.flatRow token (op.modifiers (getD (dwordsOf (now (part .entry))) (at + 1) 0 ∷ [])) word (at + 2 - at + op.dimension token)) (now (ops .entry)) (now (words .entry)) a (now (ops .exit)) (now (words .exit)) ⌝ }
+{
+    words[0] = tokens::dword(part, at + 2);
+    let x = tokens::modifiers(tokens::dword(part, at + 1));
+    put_row(ops, lone_row(token, x, 0, 0, 1, word as u32, 0, 0, 3));
+    Sums {
+        rows: 1,
+        words: 1,
+        dwords: 3,
+    }
+}
+
+// Writes an operand with extensions or representations, whose dword is read. Most have one extension and one index.
+fn extended(
+    part: &[u8],
+    at: usize,
+    token: u32,
+    left: usize,
+    ops: &mut [u32],
+    words: &mut [u32],
+    row: usize,
+    word: usize,
+) -> Sums
+    requires { ⌜ (token ≡ getD (dwordsOf (now part)) at 0) × w.Room (op.operand left (drop at (dwordsOf (now part)))) (length (now ops)) (length (now words)) row word ⌝ }
+    ensures { λ a. ⌜ w.Wrote (op.operand left (drop at (dwordsOf (now (part .entry))))) row word (now (ops .entry)) (now (words .entry)) a (now (ops .exit)) (now (words .exit)) ⌝ }
+{
+    if token / 0x10_0000 == 0x801 {
+        let x = tokens::dword(part, at + 1);
+        if !tokens::follows(x) {
+            return modified(part, at, token, ops, words, word);
+        }
+    }
+    deep(part, at, left, ops, words, row, word)
+}
+
+// Writes an operand that was measured, at a place, with so many depths left. Most are exact, have neither extensions nor
 // representations, and one index: they go a short way.
 pub fn write(
     part: &[u8],
@@ -358,14 +451,34 @@ pub fn write(
     ensures { λ a. ⌜ w.Wrote (op.operand left (drop at (dwordsOf (now (part .entry))))) row word (now (ops .entry)) (now (words .entry)) a (now (ops .exit)) (now (words .exit)) ⌝ }
 {
     let token = tokens::dword(part, at);
+    if tokens::short(token) {
+        return single(part, at, token, ops, words, word);
+    }
     if token >= 0x40_0000 {
-        return deep(part, at, left, ops, words, row, word);
+        return extended(part, at, token, left, ops, words, row, word);
     }
     if tokens::immediate(token) {
         return leaf(part, at, token, at + 1, 0, ops, words, word);
     }
-    if token / 0x10_0000 == 1 {
+    flat(part, at, token, at + 1, 0, ops, words, word)
+}
+
+// Writes an operand that was measured, for code that writes few: most of them are short, and the others need no way of their own.
+pub fn write_one(
+    part: &[u8],
+    at: usize,
+    left: usize,
+    ops: &mut [u32],
+    words: &mut [u32],
+    row: usize,
+    word: usize,
+) -> Sums
+    requires { ⌜ w.Room (op.operand left (drop at (dwordsOf (now part)))) (length (now ops)) (length (now words)) row word ⌝ }
+    ensures { λ a. ⌜ w.Wrote (op.operand left (drop at (dwordsOf (now (part .entry))))) row word (now (ops .entry)) (now (words .entry)) a (now (ops .exit)) (now (words .exit)) ⌝ }
+{
+    let token = tokens::dword(part, at);
+    if tokens::short(token) {
         return single(part, at, token, ops, words, word);
     }
-    flat(part, at, token, at + 1, 0, ops, words, word)
+    deep(part, at, left, ops, words, row, word)
 }

@@ -26,7 +26,7 @@ use Rattle.stream.specs.declared.Measured.the-variants.{Fine, Refused}
 use Rattle.stream.specs.declared.Walk.{Walk}
 use Rattle.stream.specs.declared.Step.{Step}
 use Rattle.stream.specs.declared.Step.the-variants.{On, Off}
-use Rattle.stream.specs.Stream.{passes, measured, told, since, onward, Walking, Steps, on, off}
+use Rattle.stream.specs.Stream.{passes, measured, told, since, onward, noted, Walking, Steps, on, off}
 use Rattle.stream.proofs.Frames.{part-dwords, frame-end, frame-zero, frame-past, frame-next}
 
 -- what a verdict says of the reading
@@ -117,11 +117,10 @@ module _ (c : ℕ) (m : Bool) (s : Walk) where
       since-first zero (suc p) b h = refl
       since-first (suc late) p b h = rw (not-zero late)
 
-      at-inexact : read c m i ≡ inexact → 0 < s .at → {p : ℕ} → p ≡ cond (eqb (s .late) 0) (4 * s .at) (s .late) →
-          onward c m f (record { at = end; instructions = s .instructions; operands = s .operands; words = s .words; late = p }) ≡ onward c m (instruction i f) s
+      at-inexact : read c m i ≡ inexact → 0 < s .at → onward c m f (noted s end) ≡ onward c m (instruction i f) s
       unfolding onward firstPass secondPass readings
-      at-inexact e h p =
-          rw (e, z, p)
+      at-inexact e h =
+          rw (e, z)
           (ap (λ (b : Option Refusal). told (firstPass c m (s .at + length i) f) b (s .instructions + length (readings c m f)) (s .operands + partsRows (allParts (readings c m f))) (s .words + length (partsWords (allParts (readings c m f)))))
           (since-first (s .late) (4 * s .at) (secondPass c m (s .at + length i) f) (omega arith)))
 
@@ -165,18 +164,18 @@ module _ {c : ℕ} {m : Bool} {ds : List ℕ} {s : Walk} (w : Walking c m ds s) 
     first-early zero p q e h = omega (arith, e)
     first-early (suc late) p q e h = omega (arith, (rw (not-zero late) at e))
 
-    pub inexact-on : read c m (slice (s .at) (s .at + n) ds) ≡ inexact → {p : ℕ} → p ≡ cond (eqb (s .late) 0) (4 * s .at) (s .late) →
-        Steps c m ds (s .at) (On (record { at = s .at + n; instructions = s .instructions; operands = s .operands; words = s .words; late = p }))
-    inexact-on x {p} q =
-        on {s = record { at = s .at + n; instructions = s .instructions; operands = s .operands; words = s .words; late = p }} (omega arith)
+    pub inexact-on : read c m (slice (s .at) (s .at + n) ds) ≡ inexact → {t : Walk} → t ≡ noted s (s .at + n) → Steps c m ds (s .at) (On t)
+    inexact-on x q =
+        rw q
+        (on {s = noted s (s .at + n)} (omega arith)
         (record {
           begun = omega (arith, w .begun);
           within = omega arith;
           counted = omega (arith, w .counted);
           fits = omega (arith, w .fits);
-          early = omega (arith, first-early (s .late) (4 * s .at) p q (w .early));
-          same = at-inexact c m s _ _ (s .at + n) long x (omega (arith, w .begun)) q ∙ here;
-        })
+          early = omega (arith, first-early (s .late) (4 * s .at) _ refl (w .early));
+          same = at-inexact c m s _ _ (s .at + n) long x (omega (arith, w .begun)) ∙ here;
+        }))
 
 -- a step that was taken
 module _ {c : ℕ} {m : Bool} {ds : List ℕ} {at : ℕ} where

@@ -1,5 +1,5 @@
 -- What the first pass over a chunk's stream tells.
-use Rattle.format.specs.Basis.{ℕ, zero, suc, _+_, _*_, _<_, _≤_, _≡_, List, Option, none, some, Bool, length, drop}
+use Rattle.format.specs.Basis.{ℕ, zero, suc, _+_, _*_, _<_, _≤_, _≡_, List, Option, none, some, Bool, cond, length, drop, eqb}
 use Rattle.format.specs.declared.Refusal.{Refusal}
 use Rattle.format.specs.declared.Refusal.the-variants.{Layout}
 use Rattle.format.specs.Framing.{Framed, frame}
@@ -35,6 +35,10 @@ unfoldable pub onward : ℕ → Bool → Framed → Walk → Measured
 onward c m f s =
     told (firstPass c m (s .at) f) (since (s .late) (secondPass c m (s .at) f)) (s .instructions + length (readings c m f)) (s .operands + partsRows (allParts (readings c m f)))
     (s .words + length (partsWords (allParts (readings c m f))))
+
+-- the walk past an instruction that is not exact, up to a place: it goes on, and keeps the first place of 14
+abbrev pub noted : Walk → ℕ → Walk
+noted s to = record { at = to; instructions = s .instructions; operands = s .operands; words = s .words; late = cond (eqb (s .late) 0) (4 * s .at) (s .late) }
 
 -- a walk so far: the answer from here is the whole's
 pub record Walking (c : ℕ) (m : Bool) (ds : List ℕ) (s : Walk) : Type 0 where

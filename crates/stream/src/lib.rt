@@ -8,7 +8,7 @@ ghost use mathlib.Core.Bool.{cond};
 ghost use Rattle.format.specs.Dwords.{dwordsOf};
 ghost use Rattle.format.specs.Instructions as ins;
 ghost use Rattle.instruction.specs.Measure.{verdict};
-ghost use Rattle.stream.specs.Stream.{passes, measured, Walking, Steps};
+ghost use Rattle.stream.specs.Stream.{passes, measured, noted, Walking, Steps};
 use format::Refusal;
 use header::instruction_length;
 use instruction::Verdict;
@@ -68,6 +68,20 @@ fn first(late: usize, at: usize) -> usize
     if late == 0 { at * 4 } else { late }
 }
 
+// The walk past an instruction that is not exact, which ends at a place: it goes on there, and the first 14's place is kept.
+fn noted(s: Walk, to: usize) -> Walk
+    requires { ⌜ s .at ≤ 262_144 ⌝ }
+    ensures { λ r. ⌜ r ≡ noted s to ⌝ }
+{
+    Walk {
+        at: to,
+        instructions: s.instructions,
+        operands: s.operands,
+        words: s.words,
+        late: first(s.late, s.at),
+    }
+}
+
 // Measures the instruction from one place to another.
 fn measure_part(chunk: &[u8], at: usize, end: usize, ceiling: u32, model51: bool) -> Verdict
     requires { ⌜ (at < end) × (end ≤ length (dwordsOf (now chunk))) ⌝ }
@@ -100,13 +114,7 @@ fn next(chunk: &[u8], s: Walk, ceiling: u32, model51: bool) -> Step
             late: s.late,
         }),
         Verdict::Miscounted => Step::Off(Refusal::OperandCount { at: place(s.at) }),
-        Verdict::Inexact => Step::On(Walk {
-            at: end,
-            instructions: s.instructions,
-            operands: s.operands,
-            words: s.words,
-            late: first(s.late, s.at),
-        }),
+        Verdict::Inexact => Step::On(noted(s, end)),
     }
 }
 

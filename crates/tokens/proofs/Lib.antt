@@ -2,4 +2,5 @@ pub mod Bytes
 pub mod Fields
 pub mod Chains
 pub mod Places
-mod Low
+pub mod Low
+pub mod Usuals

@@ -13,7 +13,7 @@ use borrow.Author.Tests.{eqb-true, eqb-false, eq-eqb, ne-eqb, ltb-true, ltb-fals
 use Rattle.format.specs.Dwords.{bits, bitsFrom}
 use Rattle.format.specs.Counts.{numbers}
 use Rattle.format.specs.Operands.{form, selection, typeOf, dimension, reprs, exactDword}
-use Rattle.format.proofs.Dwords.{bits-above}
+use Rattle.format.proofs.Dwords.{bits-above, both}
 use Rattle.format.proofs.Each.{below}
 use Rattle.tokens.specs.Low.{allowedBits}
 use Rattle.tokens.proofs.Fields.{chosen, mask, low, reprs-small}
@@ -122,3 +122,19 @@ module _ (t : ℕ) where
       let top : t / 2 ^ 31 ≡ bits 31 31 t = omega (arith, bits-above t 31 1) in
       rw (ea, er, computed) (whole h (made t) (typeOf t) (dimension t) (reprs t) (bitsFrom 22 9 t) (bits 31 31 t)
       (sum (typeOf t) (dimension t) (bitsFrom 22 9 t) (bits 31 31 t) _ _ _ _ (sym (mod-add-div t 4096)) (bits-above t 12 8) (bits-above t 20 2) (bits-above t 22 9) top) small (reprs-small t) (omega arith))
+
+  -- the selection of an exact dword takes all of the bits that a selection may
+  pub exact-selection : t < 2 ^ 32 → exactDword t ≡ true → t / 16 % 256 ≡ selection t
+  exact-selection h e =
+      let p = exact-by-parts h (allowedBits (u % 16)) (reprs t) refl refl ∙ e in
+      let q : u ≡ made t = eqb-true u (made t) (sym computed ∙ both _ _ p .0) in
+      let l : low (form t) < 16 = few (form t) in
+      omega (arith, part)
+    where
+      few : (f : ℕ) → low f < 16
+      few zero = omega arith
+      few (suc zero) = omega arith
+      few (suc (suc zero)) = omega arith
+      few (suc (suc (suc zero))) = omega arith
+      few (suc (suc (suc (suc zero)))) = omega arith
+      few (suc (suc (suc (suc (suc f))))) = omega arith

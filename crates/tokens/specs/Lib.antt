@@ -1,2 +1,3 @@
 pub mod Chains
 pub mod Low
+pub mod Usuals

@@ -1,7 +1,7 @@
 // Dwords out of bytes, the fields of an operand's dword, and chains of extensions.
 ghost use mathlib.Core.Path.{_≡_};
 ghost use mathlib.Core.List.{[], _∷_};
-ghost use Prim.Native.Nat.{ℕ, _+_, _*_, _-_, _^_, _<_, _≤_};
+ghost use Prim.Native.Nat.{ℕ, _+_, _*_, _-_, _/_, _^_, _<_, _≤_};
 ghost use lib.ListN.{length, getD, drop};
 ghost use lib.Seq.{slice};
 ghost use Rattle.format.specs.Dwords as d;
@@ -9,6 +9,9 @@ ghost use Rattle.format.specs.Dwords.{dwordOf, dwordsOf};
 ghost use Rattle.format.specs.Operands as op;
 ghost use Rattle.tokens.specs.Chains.{ends};
 ghost use Rattle.tokens.specs.Low.{allowedBits};
+ghost use Rattle.tokens.specs.Usuals.{strayBits, usualLength};
+ghost use mathlib.Core.Bool.{_&&_};
+ghost use lib.Dec.{eqb, ltb};
 
 // Where a chain of extensions ends; or it runs off the end of its part.
 pub enum Skip {
@@ -178,6 +181,61 @@ pub fn exact_dword(t: u32) -> bool
 {
     let low = t % 4096;
     (low & allowed(low % 16) == low) & (t / 0x40_0000 % 512 == reprs(t))
+}
+
+// The bits that an exact dword without extensions and representations has not, by its lowest four: one number for each of them, so that it
+// is looked up in a table.
+fn stray(lowest: u32) -> u32
+    ensures { λ r. ⌜ r ≡ strayBits lowest ⌝ }
+{
+    match lowest {
+        0 => 0xFFC0_0FFF,
+        1 => 0xFFC0_0FFE,
+        2 => 0xFFC0_0F0D,
+        3 => 0xFFC0_0FFF,
+        4 => 0xFFC0_0FFF,
+        5 => 0xFFC0_0FFF,
+        6 => 0xFFC0_0009,
+        7 => 0xFFC0_0FFF,
+        8 => 0xFFC0_0FFF,
+        9 => 0xFFC0_0FFF,
+        10 => 0xFFC0_0FC5,
+        11 => 0xFFC0_0FFF,
+        12 => 0xFFC0_0FFF,
+        13 => 0xFFC0_0FFF,
+        14 => 0xFFC0_0FFF,
+        _ => 0xFFC0_0FFF,
+    }
+}
+
+// An operand's dword is exact, and has neither extensions nor representations.
+pub fn usual(t: u32) -> bool
+    ensures { λ r. ⌜ r ≡ (ltb t 0x400000 && op.exactDword t) ⌝ }
+{
+    t & stray(t % 16) == 0
+}
+
+// An operand's dword is exact, has neither extensions nor representations, and one index.
+pub fn short(t: u32) -> bool
+    ensures { λ r. ⌜ r ≡ (eqb (t / 0x100000) 1 && op.exactDword t) ⌝ }
+{
+    t & (stray(t % 16) + 0x30_0000) == 0x10_0000
+}
+
+// How many dwords an operand has whose dword is exact and without extensions and representations; 0: it is another, or malformed.
+pub fn usual_length(t: u32) -> usize
+    ensures { λ r. ⌜ r ≡ usualLength t ⌝ }
+{
+    if !usual(t) {
+        return 0;
+    }
+    if !immediate(t) {
+        return 1 + (t / 0x10_0000) as usize;
+    }
+    if t < 0x10_0000 {
+        return 1 + immediates(t);
+    }
+    0
 }
 
 // The modifiers that an extension holds.

@@ -1,6 +1,7 @@
--- Unread, counted or not.
-use mathlib.Core.Path.{_∙_}
+-- Unread; counted, with a plain token or not; or uncounted.
 use borrow.Author.Needs.{needs}
+use mathlib.Core.Path.{sym, _∙_}
+use native.Mathlib.Omega.{arith}
 use Rattle.layouts.proofs.Others.{is-counted, is-uncounted}
 use Rattle.instruction.proofs.Verdicts.{verdict-known, verdict-unread-at}
 use Rattle.instruction.proofs.measure.Statement.{statement}
@@ -18,20 +19,29 @@ returns c = verdict-unread-at _ _ _ _ (c .before .before .dword .ensures) _ (c .
 operand-count-requires : tie.Need-operand-count-requires
 operand-count-requires c κs = search needs
 
-measure-counted-requires : tie.Need-measure-counted-requires
-measure-counted-requires c κs = (c .before .before .before .before .before .pre, c .before .before .before .dword .ensures, is-counted _ _ (c .before .operand-count .ensures) (c .if2 .taken))
+plain-requires : tie.Need-plain-requires
+plain-requires c κs = search needs
+
+measure-plain-requires : tie.Need-measure-plain-requires
+measure-plain-requires c κs = (c .before .before .before .before .before .before .before .pre, rw (← (c .before .before .before .before .before .dword .ensures)) (is-counted _ _ (c .before .before .before .operand-count .ensures) (c .before .before .if2 .taken)), rw (← (c .before .before .before .before .before .dword .ensures)) (sym (c .before .plain .ensures) ∙ c .if3 .taken), rw (← (c .before .before .before .before .before .dword .ensures)) (omega (arith, c .before .before .before .before .before .dword .ok)))
 
 returns-2 : tie.Need-returns-2
-returns-2 c = c .measure-counted .ensures _ ∙ verdict-known _ _ _ _ (c .before .before .before .before .dword .ensures) (c .before .before .before .if1 .left)
+returns-2 c = (rw (← (c .before .before .before .before .before .before .dword .ensures)) at (c .measure-plain .ensures (c .before .before .before .before .before .before .before .before .args .model51))) ∙ verdict-known _ _ _ _ (c .before .before .before .before .before .before .dword .ensures) (c .before .before .before .before .before .if1 .left)
 
-uncounted-layout-requires : tie.Need-uncounted-layout-requires
-uncounted-layout-requires c κs = is-uncounted _ _ (c .before .operand-count .ensures) (c .if2 .left)
+counted-layout-requires : tie.Need-counted-layout-requires
+counted-layout-requires c κs = is-counted _ _ (c .before .before .before .operand-count .ensures) (c .before .before .if2 .taken)
 
-measure-uncounted-requires : tie.Need-measure-uncounted-requires
-measure-uncounted-requires c κs = search needs
+measure-shaped-requires : tie.Need-measure-shaped-requires
+measure-shaped-requires c κs = search needs
 
 returns-3 : tie.Need-returns-3
-returns-3 c = c .measure-uncounted .ensures ∙ verdict-known _ _ _ _ (c .before .before .before .before .before .dword .ensures) (c .before .before .before .before .if1 .left)
+returns-3 c = c .measure-shaped .ensures ∙ verdict-known _ _ _ _ (c .before .before .before .before .before .before .before .dword .ensures) (c .before .before .before .before .before .before .if1 .left)
+
+measure-uncounted-requires : tie.Need-measure-uncounted-requires
+measure-uncounted-requires c κs = (c .before .before .before .before .before .pre, c .before .before .before .dword .ensures, is-uncounted _ _ (c .before .operand-count .ensures) (c .if2 .left))
+
+returns-4 : tie.Need-returns-4
+returns-4 c = c .measure-uncounted .ensures ∙ verdict-known _ _ _ _ (c .before .before .before .before .dword .ensures) (c .before .before .before .if1 .left)
 
 pub measure-spec : {M : Type 1} → statement M
 measure-spec =
@@ -41,8 +51,11 @@ measure-spec =
     dwords-requires
     returns
     operand-count-requires
-    measure-counted-requires
+    plain-requires
+    measure-plain-requires
     returns-2
-    uncounted-layout-requires
+    counted-layout-requires
+    measure-shaped-requires
+    returns-3
     measure-uncounted-requires
-    returns-3)
+    returns-4)

@@ -1,68 +1,56 @@
-use borrow.Author.Tests.{not-true, not-false}
-use Rattle.format.specs.Dwords.{dwordsOf}
-use Rattle.layouts.specs.Shapes.{meant}
-use Rattle.instruction.proofs.Verdicts.{head-lost, head-off, headed-at, parts-off, parts-inexact, head-inexact, all-fine}
+-- A declaration that is fine the quick way; or any code without a count, by its shape.
 use borrow.Author.Needs.{needs}
+use mathlib.Core.Path.{_∙_}
+use native.Mathlib.Omega.{arith}
+use Rattle.instruction.proofs.Quickly.{declared-by}
 use Rattle.instruction.proofs.measure_uncounted.Statement.{statement}
 use Rattle.instruction.proofs.measure_uncounted.Tie as tie
 
-head-requires : tie.Need-head-requires
-head-requires c κs = search needs
+declaration-requires : tie.Need-declaration-requires
+declaration-requires c κs = search needs
 
-enum-known-end : tie.Need-enum-known-end
-enum-known-end c = search needs
+declared-requires : tie.Need-declared-requires
+declared-requires c κs = search needs
 
-enum-told : tie.Need-enum-told
-enum-told c = search needs
+dwords-requires : tie.Need-dwords-requires
+dwords-requires c κs = search needs
 
-fault-requires : tie.Need-fault-requires
-fault-requires c κs = search needs
+quick-requires : tie.Need-quick-requires
+quick-requires c κs = (c .before .before .before .before .before .pre .0, c .before .before .before .before .before .pre .1, declared-by _ _ _ (c .before .before .before .declaration .ensures) (c .before .before .if1 .taken) (c .before .declared .ensures))
+
+wide-requires : tie.Need-wide-requires
+wide-requires c κs = search needs
+
+sub-t12 : tie.Need-sub-t12
+sub-t12 c = search needs
+
+sub-t13 : tie.Need-sub-t13
+sub-t13 c = omega (arith, c .before .before .quick .ensures .fits (c .before .if2 .taken ∙ c .before .before .before .dwords .ensures), c .wide .ensures, c .before .if2 .taken)
 
 returns : tie.Need-returns
-returns c = rw (← (c .before .before .before .before .before .pre .2 .meaning)) (head-lost (meant (c .before .before .before .before .before .args .s)) (c .before .before .before .before .before .args .model51) (dwordsOf (c .before .before .before .before .before .args .part .now)) (c .before .before .before .before .before .args .t) (c .before .before .before .before .before .pre .0) (c .before .before .before .before .before .pre .1) (c .fault .ensures) (head-off (meant (c .before .before .before .before .before .args .s)) (c .before .before .before .before .before .args .t) (dwordsOf (c .before .before .before .before .before .args .part .now)) (c .before .before .before .head .ensures) (c .before .enum-told .given .1)))
+returns c = rw (c .wide .ensures, ← (c .before .if2 .taken)) (c .before .before .quick .ensures .fine (c .before .if2 .taken ∙ c .before .before .before .dwords .ensures))
 
-parts-of-requires : tie.Need-parts-of-requires
-parts-of-requires c κs = (headed-at (meant (c .before .before .before .before .before .args .s)) (c .before .before .before .before .before .args .t) (dwordsOf (c .before .before .before .before .before .args .part .now)) (c .before .before .before .before .before .pre .0) (c .before .before .before .head .ensures) (c .before .end .given .1) .within, c .before .before .before .before .before .pre .2 .sound, c .before .before .before .before .before .pre .3)
+uncounted-layout-requires : tie.Need-uncounted-layout-requires
+uncounted-layout-requires c κs = search needs
 
-enum-known-rows : tie.Need-enum-known-rows
-enum-known-rows c = search needs
-
-enum-told-2 : tie.Need-enum-told-2
-enum-told-2 c = search needs
-
-fault-requires-2 : tie.Need-fault-requires-2
-fault-requires-2 c κs = search needs
+measure-shaped-requires : tie.Need-measure-shaped-requires
+measure-shaped-requires c κs = search needs
 
 returns-2 : tie.Need-returns-2
-returns-2 c = rw (← (c .before .before .before .before .before .before .before .before .before .pre .2 .meaning)) (parts-off (meant (c .before .before .before .before .before .before .before .before .before .args .s)) (c .before .before .before .before .before .before .before .before .before .args .model51) (dwordsOf (c .before .before .before .before .before .before .before .before .before .args .part .now)) (c .before .before .before .before .before .before .before .before .before .args .t) (c .before .before .before .before .before .before .before .before .before .pre .0) (c .before .before .before .before .before .before .before .before .before .pre .1) (headed-at (meant (c .before .before .before .before .before .before .before .before .before .args .s)) (c .before .before .before .before .before .before .before .before .before .args .t) (dwordsOf (c .before .before .before .before .before .before .before .before .before .args .part .now)) (c .before .before .before .before .before .before .before .before .before .pre .0) (c .before .before .before .before .before .before .before .head .ensures) (c .before .before .before .before .before .end .given .1)) (c .fault2 .ensures) (c .before .before .before .parts-of .ensures) (c .before .enum-told2 .given .1))
-
-returns-3 : tie.Need-returns-3
-returns-3 c = rw (← (c .before .before .before .before .before .before .before .before .before .before .pre .2 .meaning)) (parts-inexact (meant (c .before .before .before .before .before .before .before .before .before .before .args .s)) (c .before .before .before .before .before .before .before .before .before .before .args .model51) (dwordsOf (c .before .before .before .before .before .before .before .before .before .before .args .part .now)) (c .before .before .before .before .before .before .before .before .before .before .args .t) (c .before .before .before .before .before .before .before .before .before .before .pre .0) (c .before .before .before .before .before .before .before .before .before .before .pre .1) (headed-at (meant (c .before .before .before .before .before .before .before .before .before .before .args .s)) (c .before .before .before .before .before .before .before .before .before .before .args .t) (dwordsOf (c .before .before .before .before .before .before .before .before .before .before .args .part .now)) (c .before .before .before .before .before .before .before .before .before .before .pre .0) (c .before .before .before .before .before .before .before .before .head .ensures) (c .before .before .before .before .before .before .end .given .1)) (c .before .before .before .before .parts-of .ensures) (c .before .before .rows .given .1) (not-true _ (c .if1 .taken)))
-
-exact-head-requires : tie.Need-exact-head-requires
-exact-head-requires c κs = (c .before .before .before .before .before .before .before .before .before .before .pre .2 .sound, headed-at (meant (c .before .before .before .before .before .before .before .before .before .before .args .s)) (c .before .before .before .before .before .before .before .before .before .before .args .t) (dwordsOf (c .before .before .before .before .before .before .before .before .before .before .args .part .now)) (c .before .before .before .before .before .before .before .before .before .before .pre .0) (c .before .before .before .before .before .before .before .before .head .ensures) (c .before .before .before .before .before .before .end .given .1) .begun, headed-at (meant (c .before .before .before .before .before .before .before .before .before .before .args .s)) (c .before .before .before .before .before .before .before .before .before .before .args .t) (dwordsOf (c .before .before .before .before .before .before .before .before .before .before .args .part .now)) (c .before .before .before .before .before .before .before .before .before .before .pre .0) (c .before .before .before .before .before .before .before .before .head .ensures) (c .before .before .before .before .before .before .end .given .1) .within)
-
-returns-4 : tie.Need-returns-4
-returns-4 c = rw (← (c .before .before .before .before .before .before .before .before .before .before .before .before .pre .2 .meaning)) (head-inexact (meant (c .before .before .before .before .before .before .before .before .before .before .before .before .args .s)) (c .before .before .before .before .before .before .before .before .before .before .before .before .args .model51) (dwordsOf (c .before .before .before .before .before .before .before .before .before .before .before .before .args .part .now)) (c .before .before .before .before .before .before .before .before .before .before .before .before .args .t) (c .before .before .before .before .before .before .before .before .before .before .before .before .pre .0) (c .before .before .before .before .before .before .before .before .before .before .before .before .pre .1) (headed-at (meant (c .before .before .before .before .before .before .before .before .before .before .before .before .args .s)) (c .before .before .before .before .before .before .before .before .before .before .before .before .args .t) (dwordsOf (c .before .before .before .before .before .before .before .before .before .before .before .before .args .part .now)) (c .before .before .before .before .before .before .before .before .before .before .before .before .pre .0) (c .before .before .before .before .before .before .before .before .before .before .head .ensures) (c .before .before .before .before .before .before .before .before .end .given .1)) (c .before .before .before .before .before .before .parts-of .ensures) (c .before .before .before .before .rows .given .1) _ (c .before .exact-head .ensures) (not-true _ (c .if2 .taken)))
-
-returns-5 : tie.Need-returns-5
-returns-5 c = rw (← (c .before .before .before .before .before .before .before .before .before .before .before .before .pre .2 .meaning)) (all-fine (meant (c .before .before .before .before .before .before .before .before .before .before .before .before .args .s)) (c .before .before .before .before .before .before .before .before .before .before .before .before .args .model51) (dwordsOf (c .before .before .before .before .before .before .before .before .before .before .before .before .args .part .now)) (c .before .before .before .before .before .before .before .before .before .before .before .before .args .t) (c .before .before .before .before .before .before .before .before .before .before .before .before .pre .0) (c .before .before .before .before .before .before .before .before .before .before .before .before .pre .1) (headed-at (meant (c .before .before .before .before .before .before .before .before .before .before .before .before .args .s)) (c .before .before .before .before .before .before .before .before .before .before .before .before .args .t) (dwordsOf (c .before .before .before .before .before .before .before .before .before .before .before .before .args .part .now)) (c .before .before .before .before .before .before .before .before .before .before .before .before .pre .0) (c .before .before .before .before .before .before .before .before .before .before .head .ensures) (c .before .before .before .before .before .before .before .before .end .given .1)) (c .before .before .before .before .before .before .parts-of .ensures) (c .before .before .before .before .rows .given .1) (not-false _ (c .before .before .if1 .left)) _ (c .before .exact-head .ensures) (not-false _ (c .if2 .left)))
+returns-2 c = search needs
 
 pub measure-uncounted-spec : {M : Type 1} → statement M
 measure-uncounted-spec =
     tie.close
     (tie.spec
-    head-requires
-    enum-known-end
-    enum-told
-    fault-requires
+    declaration-requires
+    declared-requires
+    dwords-requires
+    quick-requires
+    wide-requires
+    sub-t12
+    sub-t13
     returns
-    parts-of-requires
-    enum-known-rows
-    enum-told-2
-    fault-requires-2
-    returns-2
-    returns-3
-    exact-head-requires
-    returns-4
-    returns-5)
+    uncounted-layout-requires
+    measure-shaped-requires
+    returns-2)

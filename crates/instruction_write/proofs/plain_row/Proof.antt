@@ -11,11 +11,11 @@ dwords-requires c κs = search needs
 cast-t9 : tie.Need-cast-t9
 cast-t9 c = search needs
 
-cast-t15 : tie.Need-cast-t15
-cast-t15 c = search needs
+cast-t17 : tie.Need-cast-t17
+cast-t17 c = search needs
 
 returns : tie.Need-returns
 returns c = plain-row-is (c .before .before .args .t) (c .before .before .pre .count) (c .before .before .pre .counts) (c .before .before .pre .plain) (omega (arith, c .before .before .fits)) (c .before .before .pre .other) _ _ _ _ _ _ _ (c .dwords .ensures)
 
 pub plain-row-spec : {M : Type 1} → statement M
-plain-row-spec = tie.close (tie.spec dwords-requires cast-t9 cast-t15 returns)
+plain-row-spec = tie.close (tie.spec dwords-requires cast-t9 cast-t17 returns)

@@ -1,6 +1,6 @@
 -- Unread, counted or not.
-use mathlib.Core.Path.{_∙_}
 use borrow.Author.Needs.{needs}
+use mathlib.Core.Path.{_∙_}
 use Rattle.layouts.proofs.Others.{is-counted, is-uncounted}
 use Rattle.instruction_write.proofs.Counting.{either}
 use Rattle.instruction_write.proofs.Knowing.{ready-at, written-at, read-here, unread-room, unread-written}
@@ -40,11 +40,8 @@ same-length-5 c = search needs
 returns-2 : tie.Need-returns-2
 returns-2 c = written-at (read-here _ (c .before .before .before .before .before .before .before .before .before .before .before .before .before .before .before .before .before .before .args .model51) _ _ (c .before .before .before .before .before .before .before .before .before .before .before .before .before .dword .ensures) (c .before .before .before .before .before .before .before .before .before .before .before .before .if1 .left) ∙ either _ _ _ _ (is-counted _ _ (c .before .before .before .before .before .before .before .before .before .before .before .operand-count .ensures) (c .before .before .before .before .before .before .before .before .before .before .if2 .taken))) (c .before .before .before .before .before .before .write-counted .ensures)
 
-uncounted-layout-requires : tie.Need-uncounted-layout-requires
-uncounted-layout-requires c κs = is-uncounted _ _ (c .before .operand-count .ensures) (c .if2 .left)
-
 write-uncounted-requires : tie.Need-write-uncounted-requires
-write-uncounted-requires c κs = (c .before .before .before .before .before .before .before .dword .ensures, c .before .before .before .uncounted-layout .ensures .0, ready-at (read-here _ (c .before .before .before .before .before .before .before .before .before .before .before .before .args .model51) _ _ (c .before .before .before .before .before .before .before .dword .ensures) (c .before .before .before .before .before .before .if1 .left)) (c .before .before .before .before .before .before .before .before .before .before .before .before .pre), c .before .before .before .uncounted-layout .ensures .1)
+write-uncounted-requires c κs = (c .before .before .before .before .before .before .dword .ensures, is-uncounted _ _ (c .before .before .before .before .operand-count .ensures) (c .before .before .before .if2 .left), ready-at (read-here _ (c .before .before .before .before .before .before .before .before .before .before .before .args .model51) _ _ (c .before .before .before .before .before .before .dword .ensures) (c .before .before .before .before .before .if1 .left)) (c .before .before .before .before .before .before .before .before .before .before .before .pre))
 
 same-length-6 : tie.Need-same-length-6
 same-length-6 c = search needs
@@ -56,7 +53,7 @@ same-length-8 : tie.Need-same-length-8
 same-length-8 c = search needs
 
 returns-3 : tie.Need-returns-3
-returns-3 c = written-at (read-here _ (c .before .before .before .before .before .before .before .before .before .before .before .before .before .before .before .before .before .before .before .args .model51) _ _ (c .before .before .before .before .before .before .before .before .before .before .before .before .before .before .dword .ensures) (c .before .before .before .before .before .before .before .before .before .before .before .before .before .if1 .left)) (c .before .before .before .before .before .before .write-uncounted .ensures)
+returns-3 c = written-at (read-here _ (c .before .before .before .before .before .before .before .before .before .before .before .before .before .before .before .before .before .before .args .model51) _ _ (c .before .before .before .before .before .before .before .before .before .before .before .before .before .dword .ensures) (c .before .before .before .before .before .before .before .before .before .before .before .before .if1 .left)) (c .before .before .before .before .before .before .write-uncounted .ensures)
 
 pub write-spec : {M : Type 1} → statement M
 write-spec =
@@ -73,7 +70,6 @@ write-spec =
     same-length-4
     same-length-5
     returns-2
-    uncounted-layout-requires
     write-uncounted-requires
     same-length-6
     same-length-7

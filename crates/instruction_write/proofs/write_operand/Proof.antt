@@ -10,8 +10,8 @@ use Rattle.instruction_write.proofs.write_operand.Tie as tie
 returns : tie.Need-returns
 returns c = ended {ds = dwordsOf (c .before .before .before .before .args .part .now)} {count = c .before .before .before .before .args .count} (begin (c .before .before .before .before .pre .0)) (omega (arith, c .if1)) _ refl refl refl
 
-deep-requires : tie.Need-deep-requires
-deep-requires c κs = one-room (dwordsOf (c .before .before .before .before .before .before .args .part .now)) _ (c .before .before .before .before .before .before .args .count) _ _ (c .before .before .before .before .before .before .args .operands .now) (c .before .before .before .before .before .before .args .words .now) (c .before .before .before .before .before .before .pre .0) (omega (arith, c .before .before .if1))
+write-one-requires : tie.Need-write-one-requires
+write-one-requires c κs = one-room (dwordsOf (c .before .before .before .before .before .before .args .part .now)) _ (c .before .before .before .before .before .before .args .count) _ _ (c .before .before .before .before .before .before .args .operands .now) (c .before .before .before .before .before .before .args .words .now) (c .before .before .before .before .before .before .pre .0) (omega (arith, c .before .before .if1))
 
 same-length : tie.Need-same-length
 same-length c = search needs
@@ -20,8 +20,8 @@ same-length-2 : tie.Need-same-length-2
 same-length-2 c = search needs
 
 returns-2 : tie.Need-returns-2
-returns-2 c = one-ran (dwordsOf (c .before .before .before .before .before .before .before .before .before .before .before .args .part .now)) _ (c .before .before .before .before .before .before .before .before .before .before .before .args .count) _ _ (c .before .before .before .before .before .before .before .before .before .before .before .args .operands .now) (c .before .before .before .before .before .before .before .before .before .before .before .args .words .now) (c .before .before .before .before .before .before .before .before .before .before .before .pre .0) (omega (arith, c .before .before .before .before .before .before .before .if1)) (c .before .before .before .before .before .before .before .before .before .before .before .pre .1) (c .before .before .before .before .deep .ensures)
+returns-2 c = one-ran (dwordsOf (c .before .before .before .before .before .before .before .before .before .before .before .args .part .now)) _ (c .before .before .before .before .before .before .before .before .before .before .before .args .count) _ _ (c .before .before .before .before .before .before .before .before .before .before .before .args .operands .now) (c .before .before .before .before .before .before .before .before .before .before .before .args .words .now) (c .before .before .before .before .before .before .before .before .before .before .before .pre .0) (omega (arith, c .before .before .before .before .before .before .before .if1)) (c .before .before .before .before .before .before .before .before .before .before .before .pre .1) (c .before .before .before .before .write-one .ensures)
 
 pub write-operand-spec : {M : Type 1} → statement M
 write-operand-spec =
-    tie.close (tie.spec returns deep-requires same-length same-length-2 returns-2)
+    tie.close (tie.spec returns write-one-requires same-length same-length-2 returns-2)

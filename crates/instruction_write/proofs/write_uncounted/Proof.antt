@@ -1,39 +1,20 @@
--- Head, parts and row, as they were accepted.
-use mathlib.Core.Path.{refl}
+-- A declaration, or another code without operands.
 use borrow.Author.Needs.{needs}
+use mathlib.Core.Path.{sym, _∙_}
+use borrow.Author.Tests.{not-true, not-false}
 use Rattle.format.specs.Dwords.{dwordsOf}
-use Rattle.layouts.specs.Shapes.{meant}
-use Rattle.instruction.proofs.Verdicts.{headed-at}
-use Rattle.instruction_write.proofs.Knowing.{known-lost, known-room, row-ready, known-written, room-as, body-as}
+use Rattle.instruction_write.proofs.Declaring.{bare, roomless}
 use Rattle.instruction_write.proofs.write_uncounted.Statement.{statement}
 use Rattle.instruction_write.proofs.write_uncounted.Tie as tie
 
-head-requires : tie.Need-head-requires
-head-requires c κs = search needs
+declaration-requires : tie.Need-declaration-requires
+declaration-requires c κs = search needs
 
-enum-known-end : tie.Need-enum-known-end
-enum-known-end c = search needs
+long-requires : tie.Need-long-requires
+long-requires c κs = search needs
 
-enum-told : tie.Need-enum-told
-enum-told c = search needs
-
-returns : tie.Need-returns
-returns c = known-lost (c .before .before .before .before .before .before .before .args .model51) (c .before .before .before .before .before .before .before .args .s) (c .before .before .before .before .before .before .before .args .t) (dwordsOf (c .before .before .before .before .before .before .before .args .part .now)) (c .before .before .before .before .before .before .before .pre .0) (c .before .before .before .before .before .before .before .pre .1) (c .before .before .before .before .before .before .before .pre .2) (c .before .before .head .ensures) (c .enum-told .given .1)
-
-wide-requires : tie.Need-wide-requires
-wide-requires c κs = search needs
-
-wide-requires-2 : tie.Need-wide-requires-2
-wide-requires-2 c κs = search needs
-
-write-parts-requires : tie.Need-write-parts-requires
-write-parts-requires c κs = (room-as refl (c .before .wide .ensures) (c .wide2 .ensures) (known-room (c .before .before .before .before .before .before .before .before .before .before .before .before .args .model51) (c .before .before .before .before .before .before .before .before .before .before .before .before .args .s) (c .before .before .before .before .before .before .before .before .before .before .before .before .args .t) (dwordsOf (c .before .before .before .before .before .before .before .before .before .before .before .before .args .part .now)) (c .before .before .before .before .before .before .before .before .before .before .before .before .pre .0) (c .before .before .before .before .before .before .before .before .before .before .before .before .pre .1) (c .before .before .before .before .before .before .before .before .before .before .before .before .pre .2) (headed-at (meant (c .before .before .before .before .before .before .before .before .before .before .before .before .args .s)) (c .before .before .before .before .before .before .before .before .before .before .before .before .args .t) (dwordsOf (c .before .before .before .before .before .before .before .before .before .before .before .before .args .part .now)) (c .before .before .before .before .before .before .before .before .before .before .before .before .pre .2 .some) (c .before .before .before .before .before .before .before .head .ensures) (c .before .before .before .before .before .end .given .1))), c .before .before .before .before .before .before .before .before .before .before .before .before .pre .3)
-
-known-row-requires : tie.Need-known-row-requires
-known-row-requires c κs = row-ready (c .before .before .before .before .before .before .before .before .before .before .before .before .before .before .before .before .before .before .args .model51) (c .before .before .before .before .before .before .before .before .before .before .before .before .before .before .before .before .before .before .args .s) (c .before .before .before .before .before .before .before .before .before .before .before .before .before .before .before .before .before .before .args .t) (dwordsOf (c .before .before .before .before .before .before .before .before .before .before .before .before .before .before .before .before .before .before .args .part .now)) (c .before .before .before .before .before .before .before .before .before .before .before .before .before .before .before .before .before .before .pre .0) (c .before .before .before .before .before .before .before .before .before .before .before .before .before .before .before .before .before .before .pre .1) (c .before .before .before .before .before .before .before .before .before .before .before .before .before .before .before .before .before .before .pre .2) (headed-at (meant (c .before .before .before .before .before .before .before .before .before .before .before .before .before .before .before .before .before .before .args .s)) (c .before .before .before .before .before .before .before .before .before .before .before .before .before .before .before .before .before .before .args .t) (dwordsOf (c .before .before .before .before .before .before .before .before .before .before .before .before .before .before .before .before .before .before .args .part .now)) (c .before .before .before .before .before .before .before .before .before .before .before .before .before .before .before .before .before .before .pre .2 .some) (c .before .before .before .before .before .before .before .before .before .before .before .before .before .head .ensures) (c .before .before .before .before .before .before .before .before .before .before .before .end .given .1)) (body-as refl (c .before .before .before .before .before .before .before .wide .ensures) (c .before .before .before .before .before .before .wide2 .ensures) (c .before .before .before .before .before .write-parts .ensures))
-
-put-row-requires : tie.Need-put-row-requires
-put-row-requires c κs = c .before .before .before .before .before .before .before .before .before .before .before .before .before .before .before .before .before .before .before .pre .2 .for-row
+write-declared-requires : tie.Need-write-declared-requires
+write-declared-requires c κs = (c .before .before .before .before .before .before .before .before .before .before .before .pre .0, c .before .before .before .before .before .before .declaration .ensures .laid (c .before .before .before .before .before .if1 .taken), sym (c .before .before .before .before .long .ensures) ∙ not-true _ (c .before .before .before .if2 .taken), c .before .before .before .before .before .before .before .before .before .before .before .pre .2)
 
 same-length : tie.Need-same-length
 same-length c = search needs
@@ -44,23 +25,37 @@ same-length-2 c = search needs
 same-length-3 : tie.Need-same-length-3
 same-length-3 c = search needs
 
+returns : tie.Need-returns
+returns c = search needs
+
+uncounted-layout-requires : tie.Need-uncounted-layout-requires
+uncounted-layout-requires c κs = search needs
+
+write-words-requires : tie.Need-write-words-requires
+write-words-requires c κs = let b = bare (c .before .before .before .before .before .before .before .before .before .args .t) (c .before .before .before .before .declaration .result) (c .before .before .uncounted-layout .ensures .0) (c .before .before .before .before .before .before .before .before .before .pre .1) (c .before .before .before .before .declaration .ensures) (λ u. sym (u .1 .ensures) ∙ not-false _ (u .2 .left)) (λ u. u .left) (c .before .before .before .if1 .came) in (c .before .before .before .before .before .before .before .before .before .pre .0, c .before .before .uncounted-layout .ensures .0, b, roomless (c .before .before .before .before .before .before .before .before .before .args .model51) (c .before .before .uncounted-layout .result) (c .before .before .before .before .before .before .before .before .before .args .t) (dwordsOf (c .before .before .before .before .before .before .before .before .before .args .part .now)) (c .before .before .before .before .before .before .before .before .before .pre .0) (c .before .before .uncounted-layout .ensures .0) b (c .before .before .before .before .before .before .before .before .before .pre .2))
+
+same-length-4 : tie.Need-same-length-4
+same-length-4 c = search needs
+
+same-length-5 : tie.Need-same-length-5
+same-length-5 c = search needs
+
 returns-2 : tie.Need-returns-2
-returns-2 c = known-written (c .before .before .before .before .before .before .before .before .before .before .before .before .before .before .before .before .before .before .before .before .before .before .args .model51) (c .before .before .before .before .before .before .before .before .before .before .before .before .before .before .before .before .before .before .before .before .before .before .args .s) (c .before .before .before .before .before .before .before .before .before .before .before .before .before .before .before .before .before .before .before .before .before .before .args .t) (dwordsOf (c .before .before .before .before .before .before .before .before .before .before .before .before .before .before .before .before .before .before .before .before .before .before .args .part .now)) (c .before .before .before .before .before .before .before .before .before .before .before .before .before .before .before .before .before .before .before .before .before .before .pre .0) (c .before .before .before .before .before .before .before .before .before .before .before .before .before .before .before .before .before .before .before .before .before .before .pre .1) (c .before .before .before .before .before .before .before .before .before .before .before .before .before .before .before .before .before .before .before .before .before .before .pre .2) (headed-at (meant (c .before .before .before .before .before .before .before .before .before .before .before .before .before .before .before .before .before .before .before .before .before .before .args .s)) (c .before .before .before .before .before .before .before .before .before .before .before .before .before .before .before .before .before .before .before .before .before .before .args .t) (dwordsOf (c .before .before .before .before .before .before .before .before .before .before .before .before .before .before .before .before .before .before .before .before .before .before .args .part .now)) (c .before .before .before .before .before .before .before .before .before .before .before .before .before .before .before .before .before .before .before .before .before .before .pre .2 .some) (c .before .before .before .before .before .before .before .before .before .before .before .before .before .before .before .before .before .head .ensures) (c .before .before .before .before .before .before .before .before .before .before .before .before .before .before .before .end .given .1)) (body-as refl (c .before .before .before .before .before .before .before .before .before .before .before .wide .ensures) (c .before .before .before .before .before .before .before .before .before .before .wide2 .ensures) (c .before .before .before .before .before .before .before .before .before .write-parts .ensures)) _ _ _ (c .before .before .before .known-row .ensures) (c .before .before .put-row .ensures)
+returns-2 c = c .before .before .before .before .write-words .ensures _
 
 pub write-uncounted-spec : {M : Type 1} → statement M
 write-uncounted-spec =
     tie.close
     (tie.spec
-    head-requires
-    enum-known-end
-    enum-told
-    returns
-    wide-requires
-    wide-requires-2
-    write-parts-requires
-    known-row-requires
-    put-row-requires
+    declaration-requires
+    long-requires
+    write-declared-requires
     same-length
     same-length-2
     same-length-3
+    returns
+    uncounted-layout-requires
+    write-words-requires
+    same-length-4
+    same-length-5
     returns-2)

@@ -7,12 +7,12 @@ use Rattle.layouts.proofs.row_at.Tie as tie
 mul-result : tie.Need-mul-result
 mul-result c = search needs
 
-array-copy-out-result : tie.Need-array-copy-out-result
-array-copy-out-result c = search needs
+array-read-result : tie.Need-array-read-result
+array-read-result c = search needs
 
 returns : tie.Need-returns
 unfolding rows
-returns c = rule (0, 0, 0, 0, 0, 0, 0, 0, 0, 0, 0, 0) (c .before .args .row) (c .before .pre)
+returns c = rule 0 (c .args .row) (c .pre)
 
 pub row-at-spec : {M : Type 1} → statement M
-row-at-spec = tie.close (tie.spec mul-result array-copy-out-result returns)
+row-at-spec = tie.close (tie.spec mul-result array-read-result returns)

@@ -17,7 +17,7 @@ declared-requires : tie.Need-declared-requires
 declared-requires c κs = search needs
 
 returns : tie.Need-returns
-returns c = (rw (c .declared .ensures) (of-row (c .before .before .before .before .args .code) (c .before .before .before .row-of .result) (c .before .row-at .result) (c .before .before .before .row-of .ensures) (c .before .before .if1 .taken) (c .before .row-at .ensures)), rw (c .declared .ensures) (c .before .row-at .ensures .one))
+returns c = (rw (c .declared .ensures) (of-row (c .before .before .before .before .args .code) (c .before .before .before .row-of .result) (c .before .row-at .result) (c .before .before .before .row-of .ensures) (c .before .before .if1 .taken) (c .before .row-at .ensures)), rw (c .declared .ensures) (omega arith))
 
 plain-requires : tie.Need-plain-requires
 plain-requires c κs = search needs

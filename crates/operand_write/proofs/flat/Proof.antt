@@ -6,13 +6,6 @@ use borrow.Author.Tests.{ltb-true}
 use borrow.Author.Needs.{needs}
 use Rattle.operand_write.proofs.flat.Statement.{statement}
 use Rattle.operand_write.proofs.flat.Tie as tie
-use Rattle.operand_write.proofs.flat.Reads as reads
-use Rattle.operand_write.proofs.flat.Lts as lts
-use Rattle.operand_write.proofs.copy.Reads as copy-reads
-use Rattle.operand_write.proofs.lone_row.Reads as lone-row-reads
-use Rattle.operand_write.proofs.placed.Reads as placed-reads
-use Rattle.operand_write.proofs.put_row.Reads as put-row-reads
-use Rattle.tokens.proofs.dimension.Reads as dimension-reads
 
 dimension-requires : tie.Need-dimension-requires
 dimension-requires c κs = search needs
@@ -20,8 +13,8 @@ dimension-requires c κs = search needs
 cast-n : tie.Need-cast-n
 cast-n c = search needs
 
-copy-requires : tie.Need-copy-requires
-copy-requires c κs = search needs
+copy-few-requires : tie.Need-copy-few-requires
+copy-few-requires c κs = search needs
 
 sub-dwords : tie.Need-sub-dwords
 sub-dwords c = search needs
@@ -60,7 +53,7 @@ same-length-2 : tie.Need-same-length-2
 same-length-2 c = search needs
 
 returns : tie.Need-returns
-returns c = let a = c .before .before .before .before .before .before .before .before .before .before .before .before .before .before .before .before .args in flat-stored (dwordsOf (a .part .now)) (a .at) (a .body) (a .modifiers) (a .token) (a .word) _ refl refl refl _ (c .before .before .put-row .ensures) (c .before .before .before .before .before .before .before .before .before .before .copy .ensures) (c .before .before .before .before .before .before .before .before .before .before .before .before .dimension .ensures) _ _ _ (c .before .before .before .before .before .before .before .placed .ensures) (c .before .before .before .before .before .before .placed2 .ensures) (c .before .before .before .before .before .placed3 .ensures) (c .before .before .before .lone-row .ensures)
+returns c = let a = c .before .before .before .before .before .before .before .before .before .before .before .before .before .before .before .before .args in flat-stored (dwordsOf (a .part .now)) (a .at) (a .body) (a .modifiers) (a .token) (a .word) _ refl refl refl _ (c .before .before .put-row .ensures) (c .before .before .before .before .before .before .before .before .before .before .copy-few .ensures) (c .before .before .before .before .before .before .before .before .before .before .before .before .dimension .ensures) _ _ _ (c .before .before .before .before .before .before .before .placed .ensures) (c .before .before .before .before .before .before .placed2 .ensures) (c .before .before .before .before .before .placed3 .ensures) (c .before .before .before .lone-row .ensures)
 
 pub flat-spec : {M : Type 1} → statement M
 flat-spec =
@@ -68,7 +61,7 @@ flat-spec =
     (tie.spec
     dimension-requires
     cast-n
-    copy-requires
+    copy-few-requires
     sub-dwords
     add-dwords
     placed-requires

@@ -1,22 +1,17 @@
 use mathlib.Core.Path.{refl}
+use native.Mathlib.Omega.{arith}
 use Rattle.format.specs.Dwords.{dwordsOf}
+use Rattle.tokens.proofs.Usuals.{immediates-few}
 use Rattle.operand_write.proofs.Writing.{leaf-stored}
 use borrow.Author.Needs.{needs}
 use Rattle.operand_write.proofs.leaf.Statement.{statement}
 use Rattle.operand_write.proofs.leaf.Tie as tie
-use Rattle.operand_write.proofs.leaf.Reads as reads
-use Rattle.operand_write.proofs.leaf.Lts as lts
-use Rattle.operand_write.proofs.copy.Reads as copy-reads
-use Rattle.operand_write.proofs.lone_row.Reads as lone-row-reads
-use Rattle.operand_write.proofs.placed.Reads as placed-reads
-use Rattle.operand_write.proofs.put_row.Reads as put-row-reads
-use Rattle.tokens.proofs.immediates.Reads as immediates-reads
 
 immediates-requires : tie.Need-immediates-requires
 immediates-requires c κs = search needs
 
-copy-requires : tie.Need-copy-requires
-copy-requires c κs = search needs
+copy-few-requires : tie.Need-copy-few-requires
+copy-few-requires c κs = (search needs, search needs, omega (arith, c .before .immediates .ensures, immediates-few (c .before .before .before .before .before .args .token)))
 
 sub-dwords : tie.Need-sub-dwords
 sub-dwords c = search needs
@@ -46,14 +41,14 @@ same-length-2 : tie.Need-same-length-2
 same-length-2 c = search needs
 
 returns : tie.Need-returns
-returns c = let a = c .before .before .before .before .before .before .before .before .before .before .before .before .before .before .args in leaf-stored (dwordsOf (a .part .now)) (a .at) (a .body) (a .modifiers) (a .token) (a .word) _ refl refl refl _ (c .before .before .put-row .ensures) (c .before .before .before .before .before .before .before .before .copy .ensures) (c .before .before .before .before .before .before .before .before .before .before .immediates .ensures) _ (c .before .before .before .before .before .placed .ensures) (c .before .before .before .lone-row .ensures)
+returns c = let a = c .before .before .before .before .before .before .before .before .before .before .before .before .before .before .args in leaf-stored (dwordsOf (a .part .now)) (a .at) (a .body) (a .modifiers) (a .token) (a .word) _ refl refl refl _ (c .before .before .put-row .ensures) (c .before .before .before .before .before .before .before .before .copy-few .ensures) (c .before .before .before .before .before .before .before .before .before .before .immediates .ensures) _ (c .before .before .before .before .before .placed .ensures) (c .before .before .before .lone-row .ensures)
 
 pub leaf-spec : {M : Type 1} → statement M
 leaf-spec =
     tie.close
     (tie.spec
     immediates-requires
-    copy-requires
+    copy-few-requires
     sub-dwords
     add-dwords
     placed-requires

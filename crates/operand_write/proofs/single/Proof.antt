@@ -6,11 +6,6 @@ use Rattle.operand_write.proofs.Writing.{single-stored}
 use borrow.Author.Needs.{needs}
 use Rattle.operand_write.proofs.single.Statement.{statement}
 use Rattle.operand_write.proofs.single.Tie as tie
-use Rattle.operand_write.proofs.single.Reads as reads
-use Rattle.operand_write.proofs.single.Lts as lts
-use Rattle.operand_write.proofs.lone_row.Reads as lone-row-reads
-use Rattle.operand_write.proofs.put_row.Reads as put-row-reads
-use Rattle.tokens.proofs.dword.Reads as dword-reads
 
 add-dword : tie.Need-add-dword
 add-dword c = omega (arith, c .before .before .before .pre, length-dwords (c .before .before .before .args .part .now))
@@ -21,11 +16,11 @@ dword-requires c κs = search needs
 slice-write-words : tie.Need-slice-write-words
 slice-write-words c = search needs
 
-cast-lone-row : tie.Need-cast-lone-row
-cast-lone-row c = search needs
+cast-short-row : tie.Need-cast-short-row
+cast-short-row c = search needs
 
-lone-row-requires : tie.Need-lone-row-requires
-lone-row-requires c κs = search needs
+short-row-requires : tie.Need-short-row-requires
+short-row-requires c κs = search needs
 
 put-row-requires : tie.Need-put-row-requires
 put-row-requires c κs = search needs
@@ -37,7 +32,7 @@ same-length-2 : tie.Need-same-length-2
 same-length-2 c = search needs
 
 returns : tie.Need-returns
-returns c = let a = c .before .before .before .before .before .before .before .before .before .args in single-stored (dwordsOf (a .part .now)) (a .at) (a .token) (a .word) (c .before .before .before .before .before .before .before .before .before .pre .0) (omega (arith, c .before .before .before .before .before .before .before .before .before .pre)) (omega (arith, c .before .before .before .before .before .before .before .before .before .pre)) refl refl refl _ (c .before .before .before .lone-row .ensures) (c .before .before .put-row .ensures) _ (c .before .before .before .before .before .dword .ensures)
+returns c = let a = c .before .before .before .before .before .before .before .before .before .args in single-stored (dwordsOf (a .part .now)) (a .at) (a .token) (a .word) (c .before .before .before .before .before .before .before .before .before .pre .0) (omega (arith, c .before .before .before .before .before .before .before .before .before .pre)) refl refl _ (c .before .before .put-row .ensures) _ (omega (arith, c .before .before .before .before .before .before .before .before .before .pre)) refl (c .before .before .before .short-row .ensures) (c .before .before .before .before .before .dword .ensures)
 
 pub single-spec : {M : Type 1} → statement M
 single-spec =
@@ -46,8 +41,8 @@ single-spec =
     add-dword
     dword-requires
     slice-write-words
-    cast-lone-row
-    lone-row-requires
+    cast-short-row
+    short-row-requires
     put-row-requires
     same-length
     same-length-2

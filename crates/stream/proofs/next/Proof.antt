@@ -60,8 +60,8 @@ place-requires-3 c κs = search needs
 enum-told-2 : tie.Need-enum-told-2
 enum-told-2 c = search needs
 
-first-requires : tie.Need-first-requires
-first-requires c κs = search needs
+noted-requires : tie.Need-noted-requires
+noted-requires c κs = search needs
 
 returns-3 : tie.Need-returns-3
 returns-3 c = let p = (c .before .before .before .before .before .before .before .before .before .before .before .before .before .before .before) in
@@ -76,7 +76,7 @@ returns-4 c = let p = (c .before .before .before .before .before .before .before
 returns-5 : tie.Need-returns-5
 returns-5 c = let p = (c .before .before .before .before .before .before .before .before .before .before .before .before) in
     let b = (c .before .before .before .before) in
-    inexact-on (p .pre .2) (p .pre .0) (b .before .before .before .before .before .wide .ensures ∙ b .before .before .before .before .before .before .instruction-length .ensures) (omega (arith, b .before .before .before .before .if1 .left)) (omega (arith, b .before .if2 .left, b .before .before .before .dwords .ensures)) (inexacts _ (c .before .before .before .measure-part .ensures) (c .before .enum-told2 .given .1)) (c .first .ensures)
+    inexact-on (p .pre .2) (p .pre .0) (b .before .before .before .before .before .wide .ensures ∙ b .before .before .before .before .before .before .instruction-length .ensures) (omega (arith, b .before .before .before .before .if1 .left)) (omega (arith, b .before .if2 .left, b .before .before .before .dwords .ensures)) (inexacts _ (c .before .before .before .measure-part .ensures) (c .before .enum-told2 .given .1)) (c .noted .ensures)
 
 pub next-spec : {M : Type 1} → statement M
 next-spec =
@@ -99,7 +99,7 @@ next-spec =
     enum-told
     place-requires-3
     enum-told-2
-    first-requires
+    noted-requires
     returns-3
     returns-4
     returns-5)
