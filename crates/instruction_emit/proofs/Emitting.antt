@@ -1,7 +1,9 @@
 -- Laws of emitting the parts of an instruction, and all of it.
-use Prim.Native.Nat.{ℕ, suc, _+_, _-_, _*_, _<_, _≤_}
-use mathlib.Core.Path.{_≡_, refl, sym, ap, _∙_, subst}
-use mathlib.Core.List.{List, [], _∷_, _++_}
+use Prim.Native.Nat.{ℕ, suc, _+_, _-_, _*_, _^_, _<_, _≤_}
+use mathlib.Core.Path.{_≡_, refl, sym, ap, _∙_}
+use mathlib.Core.Bool.{Bool, true}
+use mathlib.Core.List.{List, [], _∷_, _++_, append-assoc, append-nil}
+use native.Mathlib.Nat.{add-zero}
 use mathlib.Core.Option.{Option, some as just}
 use native.Mathlib.Omega.{arith}
 use lib.ListN.{length, getD, take, drop, length-append, length-drop}
@@ -23,8 +25,10 @@ use Rattle.operand_emit.specs.Emits.{put, treeIn, Headed}
 use Rattle.operand_emit.specs.declared.Ends as operand-ends
 use Rattle.operand_emit.proofs.Puts.{dwords-length, dwords-none, dwords-more}
 use Rattle.instruction_emit.specs.declared.Ends.{Ends}
-use Rattle.instruction_emit.specs.Emits.{Is, Ready, Stands, Emitted, rowFrom, headOf, HeadReady, confirmRun, runAt, treesIn, RunReady, Ran, before, around, PartsReady, Parted}
-use Rattle.instruction_emit.proofs.Items.{every-is, Around}
+use Rattle.instruction_emit.specs.declared.Place.{Place}
+use Rattle.instruction_emit.specs.Emits.{Is, Ready, Emitted, rowFrom, Fits, headOf, HeadReady, Bare, before, leadOf, frontOf, FrontReady, Fronted, confirmRun, runAt, treesIn, RunReady, Ran, rest, PartsReady, Parted}
+use Rattle.instruction_emit.proofs.Heads.{plain-room, headed-plain, is-one, bare-low, bare-bits, bare-53, bare-120}
+use Rattle.instruction_emit.proofs.Items.{every-is}
 use Rattle.instruction_emit.proofs.Opened.{Known, Opened, words-alone, known, opened}
 
 -- ---- operands, one after the other: the first, and those behind it
@@ -162,79 +166,132 @@ module _ (c word place : ℕ) (ws out : List ℕ) where
   pub lead-none : (c ≡ 120 → ⊥) → Lead 0 out
   lead-none h = (sym (none-before c h), rw (none-before c h) (dwords-none place out))
 
--- ---- the parts: words, operands, and the words left
-around-length : (k : ℕ) (ws : List ℕ) (xs : List Tree) → k + length (partsWords xs) ≤ length ws → length (around k ws xs) + (k + length (partsWords xs)) ≡ k + length (op.partsDwords xs) + length ws
-around-length k ws xs h =
-    let d : List ℕ = op.partsDwords xs in
-    let l : List ℕ = drop (k + length (partsWords xs)) ws in
-    omega (arith, length-append (take k ws) (d ++ l), length-append d l, length-take-le k ws (omega arith), length-drop (k + length (partsWords xs)) ws)
+-- ---- what stands in front of the operands
+module _ (q ws : List ℕ) (word place : ℕ) (out : List ℕ) where
+  pub front-none : at 3 q ≡ 0 → Fronted q ws word place out (record { word = word; at = place }) out
+  front-none h = record {
+    word-is = rw (eq-eqb (at 3 q) 0 h) (sym (add-zero word));
+    headed = rw (eq-eqb (at 3 q) 0 h) (record { next-is = sym (add-zero place); output-is = dwords-none place out });
+  }
 
-module _ (count k place row word : ℕ) (rs ws out : List ℕ) where
+  module _ (h : at 3 q ≡ 0 → ⊥) where
+    pub front-bare : (at 2 q ≡ 120 → ⊥) → {next : ℕ} {out₁ : List ℕ} → Headed (headOf q) place out next out₁ → Fronted q ws word place out (record { word = word; at = next }) out₁
+    front-bare n {next} {out₁} d = record {
+      word-is = rw (ne-eqb (at 3 q) 0 h, none-before (at 2 q) n) (sym (add-zero word));
+      headed = rw (ne-eqb (at 3 q) 0 h, none-before (at 2 q) n, append-nil (headOf q)) d;
+    }
+
+    pub front-more : (k : ℕ) → k ≡ before (at 2 q) → before (at 2 q) ≤ length ws → 4 * (place + (length (headOf q) + before (at 2 q))) ≤ length out → {next : ℕ} {out₁ out₂ : List ℕ} → Headed (headOf q) place out next out₁ →
+        out₂ ≡ put (4 * next) (bytesOf (take (before (at 2 q)) ws)) out₁ → Fronted q ws word place out (record { word = word + k; at = next + k }) out₂
+    front-more k ek n r {next} {out₁} {out₂} d e =
+        let t : List ℕ = take (before (at 2 q)) ws in
+        let lt : length t ≡ before (at 2 q) = length-take-le (before (at 2 q)) ws n in
+        record {
+          word-is = rw (ne-eqb (at 3 q) 0 h) (ap (λ (j : ℕ). word + j) ek);
+          headed = rw (ne-eqb (at 3 q) 0 h) (record {
+            next-is = omega (arith, d .next-is, length-append (headOf q) t, lt);
+            output-is = dwords-more place next (headOf q) t out (omega arith) (d .next-is) (d .output-is) e;
+          });
+        }
+
+module _ (is : List ℕ) (first : ℕ) (ws : List ℕ) (word place : ℕ) (out : List ℕ) (g : FrontReady (rowFrom first is) (length ws) word place (length out)) where
+  abbrev Q : List ℕ
+  Q = rowFrom first is
+
+  abbrev N : ℕ → ℕ
+  N k = getD is (first + k) 0
+
+  -- a code and a length
+  module _ {b : Bool} (d : Bare Q b) (hb : b ≡ true) where
+    bare-fits : Fits Q
+    bare-fits = g .fits (is-one is first d hb)
+
+    pub bare-token : N 2 + N 1 * 16777216 < 2 ^ 32
+    bare-token = plain-room is first (N 2) (bare-low is first d hb) (bare-bits is first d hb) (bare-53 is first d hb bare-fits) bare-fits
+
+    pub bare-room : 4 * (place + 1) ≤ length out
+    bare-room = omega (arith, g .room (is-one is first d hb))
+
+    pub bare-fronted : {out₁ : List ℕ} → out₁ ≡ put (4 * place) (bytesOf ((N 2 + N 1 * 16777216) ∷ [])) out → Fronted Q (drop word ws) word place out (record { word = word; at = place + 1 }) out₁
+    bare-fronted e =
+        front-bare Q (drop word ws) word place out (is-one is first d hb) (bare-120 is first d hb bare-fits)
+        (headed-plain is first (N 2) (bare-low is first d hb) (bare-bits is first d hb) (bare-53 is first d hb bare-fits) place out e)
+
+  pub alone-fronted : N 3 ≡ 0 → Fronted Q (drop word ws) word place out (record { word = word; at = place }) out
+  alone-fronted e = front-none Q (drop word ws) word place out (row-at is first 3 (lit< tt) ∙ e)
+
+  -- any other
+  module _ (h : N 3 ≡ 0 → ⊥) where
+    was-read : at 3 Q ≡ 0 → ⊥
+    was-read e = h (sym (row-at is first 3 (lit< tt)) ∙ e)
+
+    pub other-head : HeadReady Q place (length out)
+    other-head = record { fits = g .fits was-read; room = omega (arith, g .room was-read) }
+
+    module _ {next : ℕ} {out₁ : List ℕ} (d : Headed (headOf Q) place out next out₁) where
+      pub lead-ready : (n₁ : ℕ) → n₁ ≡ length out → (word + before (N 2) ≤ length ws) × (4 * (next + before (N 2)) ≤ n₁)
+      lead-ready n₁ e =
+          let c : before (at 2 Q) ≡ before (N 2) = ap before (row-at is first 2 (lit< tt)) in
+          (omega (arith, g .words-there was-read, c), omega (arith, g .room was-read, c, d .next-is))
+
+      pub other-fronted : (k : ℕ) → k ≡ before (N 2) → {out₂ : List ℕ} → out₂ ≡ put (4 * next) (bytesOf (take (before (N 2)) (drop word ws))) out₁ → Fronted Q (drop word ws) word place out (record { word = word + k; at = next + k }) out₂
+      other-fronted k ek {out₂} e =
+          let c : before (N 2) ≡ before (at 2 Q) = ap before (sym (row-at is first 2 (lit< tt))) in
+          front-more Q (drop word ws) word place out was-read k (ek ∙ c) (omega (arith, g .words-there was-read, length-drop word ws)) (g .room was-read) d
+          (e ∙ ap (λ (j : ℕ). put (4 * next) (bytesOf (take j (drop word ws))) out₁) c)
+
+-- ---- the parts: operands, and the words left
+rest-length : (ws : List ℕ) (xs : List Tree) → length (partsWords xs) ≤ length ws → length (rest ws xs) + length (partsWords xs) ≡ length (op.partsDwords xs) + length ws
+rest-length ws xs h =
+    let l : List ℕ = drop (length (partsWords xs)) ws in
+    omega (arith, length-append (op.partsDwords xs) l, length-drop (length (partsWords xs)) ws)
+
+module _ (count place row word : ℕ) (rs ws out : List ℕ) (h : word ≤ length ws) (ready : PartsReady (runAt count rs ws row word) (drop word ws) place (length out)) where
   abbrev o : Option (List Tree)
-  o = runAt count rs ws row (word + k)
+  o = runAt count rs ws row word
 
-  module _ (c : ℕ) (ek : k ≡ before c) (h : word ≤ length ws) (g₀ : PartsReady (before c) (runAt count rs ws row (word + before c)) (drop word ws) place (length out)) where
-    ready : PartsReady k o (drop word ws) place (length out)
-    ready = rw ek g₀
+  there-are : (word + length (partsWords (ready .trees)) ≤ length ws) × (4 * (place + (length (op.partsDwords (ready .trees)) + (length ws - (word + length (partsWords (ready .trees)))))) ≤ length out)
+  there-are = (
+    omega (arith, ready .words-there, length-drop word ws),
+    omega (arith, ready .words-there, length-drop word ws, ready .room, rest-length (drop word ws) (ready .trees) (ready .words-there)),
+  )
 
-    there-are : (word + (k + length (partsWords (ready .trees))) ≤ length ws) × (4 * (place + (k + length (op.partsDwords (ready .trees)) + (length ws - (word + (k + length (partsWords (ready .trees))))))) ≤ length out)
-    there-are = (
-      omega (arith, ready .words-there, length-drop word ws),
-      omega (arith, ready .words-there, length-drop word ws, ready .room, around-length k (drop word ws) (ready .trees) (ready .words-there)),
-    )
+  pub run-ready : RunReady o place (length out)
+  run-ready = record { trees = ready .trees; is = ready .is; room = omega (arith, there-are .1) }
 
-    pub lead-room : (word + k ≤ length ws) × (4 * (place + k) ≤ length out)
-    lead-room = (omega (arith, there-are .0), omega (arith, there-are .1))
+  module _ {x : operand-ends.Ends} {out₁ : List ℕ} (r : Ran o row word place out x out₁) where
+    trees-are : treesIn o ≡ ready .trees
+    trees-are = ap treesIn (ready .is)
 
-    module _ {out₁ : List ℕ} (e₁ : out₁ ≡ put (4 * place) (bytesOf (take (before c) (drop word ws))) out) where
-      lead-length : length (take k (drop word ws)) ≡ k
-      lead-length = length-take-le k (drop word ws) (omega (arith, ready .words-there))
+    word-is : x .word ≡ word + length (partsWords (ready .trees))
+    word-is = omega (arith, r .word-is, ap (λ (l : List Tree). length (partsWords l)) trees-are)
 
-      lead-put : out₁ ≡ put (4 * place) (bytesOf (take k (drop word ws))) out
-      lead-put = rw ek e₁
+    at-is : x .at ≡ place + length (op.partsDwords (ready .trees))
+    at-is = omega (arith, r .at-is, ap (λ (l : List Tree). length (op.partsDwords l)) trees-are)
 
-      pub run-ready : length out₁ ≡ length out → RunReady o (place + k) (length out₁)
-      run-ready n = record { trees = ready .trees; is = ready .is; room = omega (arith, there-are .1) }
+    pub within : x .word ≤ length ws
+    within = omega (arith, word-is, there-are .0)
 
-      module _ {x : operand-ends.Ends} {out₂ : List ℕ} (r : Ran o row (word + k) (place + k) out₁ x out₂) where
-        trees-are : treesIn o ≡ ready .trees
-        trees-are = ap treesIn (ready .is)
+    pub left-ready : length out₁ ≡ length out → (length ws - x .word ≤ length ws - x .word) × (4 * (x .at + (length ws - x .word)) ≤ length out₁)
+    left-ready n = (omega arith, omega (arith, word-is, at-is, there-are .1))
 
-        word-is : x .word ≡ word + (k + length (partsWords (ready .trees)))
-        word-is = omega (arith, r .word-is, ap (λ (l : List Tree). length (partsWords l)) trees-are)
+    left-is : take (length ws - x .word) (drop (x .word) ws) ≡ drop (length (partsWords (ready .trees))) (drop word ws)
+    left-is = take-all (length ws - x .word) (drop (x .word) ws) (omega (arith, length-drop (x .word) ws)) ∙ ap (λ (n : ℕ). drop n ws) word-is ∙ sym (drop-drop (length (partsWords (ready .trees))) word ws)
 
-        at-is : x .at ≡ place + (k + length (op.partsDwords (ready .trees)))
-        at-is = omega (arith, r .at-is, ap (λ (l : List Tree). length (op.partsDwords l)) trees-are)
-
-        pub within : x .word ≤ length ws
-        within = omega (arith, word-is, there-are .0)
-
-        pub left-ready : length out₂ ≡ length out → (length ws - x .word ≤ length ws - x .word) × (4 * (x .at + (length ws - x .word)) ≤ length out₂)
-        left-ready n = (omega arith, omega (arith, word-is, at-is, there-are .1))
-
-        left-is : take (length ws - x .word) (drop (x .word) ws) ≡ drop (k + length (partsWords (ready .trees))) (drop word ws)
-        left-is = take-all (length ws - x .word) (drop (x .word) ws) (omega (arith, length-drop (x .word) ws)) ∙ ap (λ (n : ℕ). drop n ws) word-is ∙ sym (drop-drop (k + length (partsWords (ready .trees))) word ws)
-
-        pub parted : {out₃ : List ℕ} → out₃ ≡ put (4 * x .at) (bytesOf (take (length ws - x .word) (drop (x .word) ws))) out₂ →
-            Parted (before c) (runAt count rs ws row (word + before c)) (drop word ws) row place out (record { row = x .row; at = x .at + (length ws - x .word) }) out₃
-        parted {out₃} e₃ = rw (← ek) whole
-          where
-            whole : Parted k o (drop word ws) row place out (record { row = x .row; at = x .at + (length ws - x .word) }) out₃
-            whole =
-                let t : List Tree = ready .trees in
-                let a : List ℕ = take k (drop word ws) in
-                let b : List ℕ = op.partsDwords t in
-                let l : List ℕ = drop (k + length (partsWords t)) (drop word ws) in
-                let f₂ : out₂ ≡ put (4 * (place + k)) (bytesOf b) out₁ = rw trees-are at (r .output-is) in
-                let f₃ : out₃ ≡ put (4 * x .at) (bytesOf l) out₂ = rw left-is at e₃ in
-                let n₁ : length out₁ ≡ length out = ap length lead-put ∙ dwords-length place a out (omega (arith, lead-length, there-are .1)) in
-                let f₂₃ : out₃ ≡ put (4 * (place + k)) (bytesOf (b ++ l)) out₁ = dwords-more (place + k) (x .at) b l out₁ (omega (arith, there-are .1, n₁)) (omega (arith, at-is)) f₂ f₃ in
-                let f : out₃ ≡ put (4 * place) (bytesOf (a ++ (b ++ l))) out = dwords-more place (place + k) a (b ++ l) out (omega (arith, lead-length, there-are .1)) (omega (arith, lead-length)) lead-put f₂₃ in
-                record {
-                  output-is = f ∙ ap (λ (y : List Tree). put (4 * place) (bytesOf (around k (drop word ws) y)) out) (sym trees-are);
-                  row-is = r .row-is;
-                  at-is = omega (arith, at-is, word-is, there-are .0, length-drop word ws, around-length k (drop word ws) t (ready .words-there), ap (λ (y : List Tree). length (around k (drop word ws) y)) trees-are);
-                }
+    pub parted : {out₂ : List ℕ} → out₂ ≡ put (4 * x .at) (bytesOf (take (length ws - x .word) (drop (x .word) ws))) out₁ →
+        Parted o (drop word ws) row place out (record { row = x .row; at = x .at + (length ws - x .word) }) out₂
+    parted {out₂} e₂ =
+        let t : List Tree = ready .trees in
+        let b : List ℕ = op.partsDwords t in
+        let l : List ℕ = drop (length (partsWords t)) (drop word ws) in
+        let f₁ : out₁ ≡ put (4 * place) (bytesOf b) out = rw trees-are at (r .output-is) in
+        let f₂ : out₂ ≡ put (4 * x .at) (bytesOf l) out₁ = rw left-is at e₂ in
+        let f : out₂ ≡ put (4 * place) (bytesOf (b ++ l)) out = dwords-more place (x .at) b l out (omega (arith, there-are .1)) at-is f₁ f₂ in
+        record {
+          output-is = f ∙ ap (λ (y : List Tree). put (4 * place) (bytesOf (rest (drop word ws) y)) out) (sym trees-are);
+          row-is = r .row-is;
+          at-is = omega (arith, at-is, word-is, there-are .0, length-drop word ws, rest-length (drop word ws) t (ready .words-there), ap (λ (y : List Tree). length (rest (drop word ws) y)) trees-are);
+        }
 
 -- ---- all of an instruction
 module _ (is : List ℕ) (first : ℕ) (rs ws : List ℕ) (row word place : ℕ) (out : List ℕ) (h : word ≤ length ws) where
@@ -244,102 +301,101 @@ module _ (is : List ℕ) (first : ℕ) (rs ws : List ℕ) (row word place : ℕ)
   abbrev number : ℕ → ℕ
   number k = getD is (first + k) 0
 
-  -- words alone
-  module _ (g : Ready q (drop (16 * row) rs) (drop word ws) row word place (length out)) (z : number 3 ≡ 0) where
-    alone : (i : Instruction) → Is q (drop (16 * row) rs) (drop word ws) row word i → i ≡ unread (drop word ws)
-    alone i k = go (opened q (drop (16 * row) rs) (drop word ws) row word i (g .words-are) k)
-      where
-        go : {i : Instruction} → Opened q (drop (16 * row) rs) (drop word ws) row word i → i ≡ unread (drop word ws)
-        go (words-alone e) = refl
-        go (known e) = absurd (e .is-read (row-at is first 3 (lit< tt) ∙ z))
+  -- what stands in front, operands, and the words left
+  record Laid (i : Instruction) : Type 0 where
+    trees : List Tree
+    run : runAt (number 13) rs ws row (word + leadOf q) ≡ just trees
+    lead-there : word + leadOf q ≤ length ws
+    words-there : length (partsWords trees) ≤ length (drop (word + leadOf q) ws)
+    dwords-are : dwords i ≡ frontOf q (drop word ws) ++ rest (drop (word + leadOf q) ws) trees
+    rows-are : partsRows (parts i) ≡ partsRows trees
 
-    pub words-room : (length ws - word ≤ length ws - word) × (4 * (place + (length ws - word)) ≤ length out)
-    unfolding dwords
-    words-room = (omega arith, omega (arith, g .room, ap (λ (i : Instruction). length (dwords i)) (alone (g .instruction) (g .is)), length-drop word ws))
+  laid-words : at 3 q ≡ 0 → at 13 q ≡ 0 → Laid (unread (drop word ws))
+  unfolding confirmRun dwords parts partsRows partsWords treeRows op.partsDwords
+  laid-words e n =
+      let c : number 13 ≡ 0 = sym (row-at is first 13 (lit< tt)) ∙ n in
+      let k : leadOf q ≡ 0 = rw (eq-eqb (at 3 q) 0 e) in
+      let w : word + leadOf q ≡ word = omega (arith, k) in
+      let f : frontOf q (drop word ws) ≡ [] = rw (eq-eqb (at 3 q) 0 e) in
+      record { trees = []; run = rw c; lead-there = rw w h; words-there = omega arith; dwords-are = rw (f, w); rows-are = omega arith }
 
-    words-stand : {out₁ : List ℕ} → out₁ ≡ put (4 * place) (bytesOf (take (length ws - word) (drop word ws))) out → Stands (unread (drop word ws)) row place out (record { row = row; at = place + (length ws - word) }) out₁
-    unfolding dwords parts partsRows treeRows
-    words-stand e = record {
-      output-is = e ∙ ap (λ (l : List ℕ). put (4 * place) (bytesOf l) out) (take-all (length ws - word) (drop word ws) (omega (arith, length-drop word ws)));
-      row-is = omega arith;
-      at-is = omega (arith, length-drop word ws);
+  laid-pieces : (ps : List Tree) → Known q (drop (16 * row) rs) (drop word ws) row word ps → Laid (pieces (tokenOfRow q) (headOfRow q) ps)
+  unfolding dwords parts
+  laid-pieces ps e =
+      let k : ℕ = before (at 2 q) in
+      let a = e .around in
+      let c : topLevel ps ≡ number 13 = sym (e .count) ∙ row-at is first 13 (lit< tt) in
+      let n : drop k (drop word ws) ≡ drop (word + k) ws = drop-drop k word ws in
+      let m : drop (k + length (partsWords (a .trees))) (drop word ws) ≡ drop (length (partsWords (a .trees))) (drop (word + k) ws) =
+      sym (drop-drop (length (partsWords (a .trees))) k (drop word ws)) ∙ ap (drop (length (partsWords (a .trees)))) n in
+      let z : leadOf q ≡ k = rw (ne-eqb (at 3 q) 0 (e .is-read)) in
+      let f : frontOf q (drop word ws) ≡ headOf q ++ take k (drop word ws) = rw (ne-eqb (at 3 q) 0 (e .is-read)) in
+      record {
+        trees = a .trees;
+        run = rw z (rw (c, n) at (a .run));
+        lead-there = omega (arith, z, a .words-there, length-drop word ws);
+        words-there = omega (arith, z, a .words-there, length-drop word ws, length-drop (word + leadOf q) ws);
+        dwords-are = rw (f, z) (ap (λ (l : List ℕ). headOf q ++ l) (a .dwords-are ∙ ap (λ (l : List ℕ). take k (drop word ws) ++ (op.partsDwords (a .trees) ++ l)) m) ∙ sym (append-assoc (headOf q) (take k (drop word ws)) (rest (drop (word + k) ws) (a .trees))));
+        rows-are = a .rows-are;
+      }
+
+  laid : {i : Instruction} → Opened q (drop (16 * row) rs) (drop word ws) row word i → Laid i
+  laid (words-alone e n) = laid-words e n
+  laid (known {ps = ps} e) = laid-pieces ps e
+
+  module _ (g : Ready q (drop (16 * row) rs) (drop word ws) row word place (length out)) where
+    open-is : (i : Instruction) → Is q (drop (16 * row) rs) (drop word ws) row word i → Opened q (drop (16 * row) rs) (drop word ws) row word i
+    open-is i k = opened q (drop (16 * row) rs) (drop word ws) row word i (g .words-are) k
+
+    all : Laid (g .instruction)
+    all = laid (open-is (g .instruction) (g .is))
+
+    all-length : length (dwords (g .instruction)) ≡ length (frontOf q (drop word ws)) + length (rest (drop (word + leadOf q) ws) (all .trees))
+    all-length = ap length (all .dwords-are) ∙ length-append (frontOf q (drop word ws)) (rest (drop (word + leadOf q) ws) (all .trees))
+
+    fits-of : {i : Instruction} → Opened q (drop (16 * row) rs) (drop word ws) row word i → (at 3 q ≡ 0 → ⊥) → Fits q
+    fits-of (words-alone e n) z = absurd (z e)
+    fits-of (known e) z = e .fits
+
+    -- a row that was read
+    module _ (z : at 3 q ≡ 0 → ⊥) where
+      lead-within : word + before (at 2 q) ≤ length ws
+      lead-within = rw (ne-eqb (at 3 q) 0 z) at (all .lead-there)
+
+      front-length : length (frontOf q (drop word ws)) ≡ length (headOf q) + before (at 2 q)
+      front-length =
+          let t = length-take-le (before (at 2 q)) (drop word ws) (omega (arith, lead-within, length-drop word ws)) in
+          rw (ne-eqb (at 3 q) 0 z) (length-append (headOf q) (take (before (at 2 q)) (drop word ws)) ∙ ap (λ (j : ℕ). length (headOf q) + j) t)
+
+    pub front-ready : FrontReady q (length ws) word place (length out)
+    front-ready = record {
+      fits = fits-of (open-is (g .instruction) (g .is));
+      words-there = lead-within;
+      room = λ z. omega (arith, g .room, all-length, front-length z);
     }
 
-    pub words-emitted : {out₁ : List ℕ} → out₁ ≡ put (4 * place) (bytesOf (take (length ws - word) (drop word ws))) out →
-        Emitted q (drop (16 * row) rs) (drop word ws) row word place out (record { row = row; at = place + (length ws - word) }) out₁
-    words-emitted {out₁} e i k = subst (λ (j : Instruction). Stands j row place out (record { row = row; at = place + (length ws - word) }) out₁) (sym (alone i k)) (words-stand e)
+    module _ {f : Place} {out₁ : List ℕ} (d : Fronted q (drop word ws) word place out f out₁) where
+      pub front-within : f .word ≤ length ws
+      front-within = omega (arith, d .word-is, all .lead-there)
 
-  -- a token, what stands after it, and parts
-  module _ (g : Ready q (drop (16 * row) rs) (drop word ws) row word place (length out)) (z : number 3 ≡ 0 → ⊥) where
-    data Made : Instruction → Type 0 where
-      made : (ps : List Tree) → Known q (drop (16 * row) rs) (drop word ws) row word ps → Made (pieces (tokenOfRow q) (headOfRow q) ps)
+      pub parts-ready : length out₁ ≡ length out → PartsReady (runAt (number 13) rs ws row (f .word)) (drop (f .word) ws) (f .at) (length out₁)
+      parts-ready n = rw (d .word-is) (record {
+        trees = all .trees;
+        is = all .run;
+        words-there = all .words-there;
+        room = omega (arith, g .room, all-length, d .headed .next-is);
+      })
 
-    of-pieces : (i : Instruction) → Is q (drop (16 * row) rs) (drop word ws) row word i → Made i
-    of-pieces i k = go (opened q (drop (16 * row) rs) (drop word ws) row word i (g .words-are) k)
-      where
-        go : {i : Instruction} → Opened q (drop (16 * row) rs) (drop word ws) row word i → Made i
-        go (words-alone e) = absurd (z (sym (row-at is first 3 (lit< tt)) ∙ e))
-        go (known {ps = ps} e) = made ps e
-
-    pub head-ready : HeadReady q place (length out)
-    unfolding dwords
-    head-ready = go (of-pieces (g .instruction) (g .is)) (g .room)
-      where
-        go : {i : Instruction} → Made i → 4 * (place + length (dwords i)) ≤ length out → HeadReady q place (length out)
-        go (made ps e) n = record { fits = e .fits; room = omega (arith, n, length-append (headOf q) (op.partsDwords ps)) }
-
-    -- the operands there
-    abbrev k : ℕ
-    k = before (number 2)
-
-    abbrev o₁ : Option (List Tree)
-    o₁ = runAt (number 13) rs ws row (word + k)
-
-    record Between (ps : List Tree) : Type 0 where
-      trees : List Tree
-      run : o₁ ≡ just trees
-      words-there : k + length (partsWords trees) ≤ length (drop word ws)
-      dwords-are : op.partsDwords ps ≡ around k (drop word ws) trees
-      rows-are : partsRows ps ≡ partsRows trees
-
-    between : (ps : List Tree) → Known q (drop (16 * row) rs) (drop word ws) row word ps → Between ps
-    between ps e =
-        let a : Around k (drop (16 * row) rs) (drop word ws) row word ps = rw (row-at is first 2 (lit< tt)) at (e .around) in
-        let c : topLevel ps ≡ number 13 = sym (e .count) ∙ row-at is first 13 (lit< tt) in
-        record {
-          trees = a .trees;
-          run = rw (c, drop-drop k word ws) at (a .run);
-          words-there = a .words-there;
-          dwords-are = a .dwords-are;
-          rows-are = a .rows-are;
-        }
-
-    module _ {next : ℕ} {out₁ : List ℕ} (d : Headed (headOf q) place out next out₁) where
-      pub parts-ready : length out₁ ≡ length out → PartsReady k o₁ (drop word ws) next (length out₁)
-      unfolding dwords
-      parts-ready n = go (of-pieces (g .instruction) (g .is)) (g .room)
-        where
-          go : {i : Instruction} → Made i → 4 * (place + length (dwords i)) ≤ length out → PartsReady k o₁ (drop word ws) next (length out₁)
-          go (made ps e) m =
-              let b = between ps e in
-              record {
-                trees = b .trees;
-                is = b .run;
-                words-there = b .words-there;
-                room = omega (arith, m, d .next-is, ap length (b .dwords-are), length-append (headOf q) (op.partsDwords ps));
-              }
-
-      pub parts-emitted : {ends : Ends} {out₂ : List ℕ} → Parted k o₁ (drop word ws) row next out₁ ends out₂ → Emitted q (drop (16 * row) rs) (drop word ws) row word place out ends out₂
-      unfolding dwords parts
-      parts-emitted {ends} {out₂} p i y = go (of-pieces i y)
-        where
-          go : {i : Instruction} → Made i → Stands i row place out ends out₂
-          go (made ps e) =
-              let b = between ps e in
-              let t : treesIn o₁ ≡ b .trees = ap treesIn (b .run) in
-              let f : out₂ ≡ put (4 * next) (bytesOf (op.partsDwords ps)) out₁ = p .output-is ∙ ap (λ (l : List Tree). put (4 * next) (bytesOf (around k (drop word ws) l)) out₁) t ∙ ap (λ (l : List ℕ). put (4 * next) (bytesOf l) out₁) (sym (b .dwords-are)) in
-              record {
-                output-is = dwords-more place next (headOf q) (op.partsDwords ps) out (omega (arith, head-ready .room)) (d .next-is) (d .output-is) f;
-                row-is = omega (arith, p .row-is, ap partsRows t, b .rows-are);
-                at-is = omega (arith, p .at-is, d .next-is, ap (λ (l : List Tree). length (around k (drop word ws) l)) t, ap length (b .dwords-are), length-append (headOf q) (op.partsDwords ps));
-              }
+      pub parts-emitted : {ends : Ends} {out₂ : List ℕ} → Parted (runAt (number 13) rs ws row (f .word)) (drop (f .word) ws) row (f .at) out₁ ends out₂ → Emitted q (drop (16 * row) rs) (drop word ws) row word place out ends out₂
+      parts-emitted {ends} {out₂} p₀ i y =
+          let p : Parted (runAt (number 13) rs ws row (word + leadOf q)) (drop (word + leadOf q) ws) row (f .at) out₁ ends out₂ = rw (d .word-is) at p₀ in
+          let b = laid (open-is i y) in
+          let x : List ℕ = frontOf q (drop word ws) in
+          let l : List ℕ = rest (drop (word + leadOf q) ws) (b .trees) in
+          let t : treesIn (runAt (number 13) rs ws row (word + leadOf q)) ≡ b .trees = ap treesIn (b .run) in
+          let e : out₂ ≡ put (4 * f .at) (bytesOf l) out₁ = rw t at (p .output-is) in
+          record {
+            output-is = dwords-more place (f .at) x l out (omega (arith, g .room, all-length)) (d .headed .next-is) (d .headed .output-is) e ∙ ap (λ (k : List ℕ). put (4 * place) (bytesOf k) out) (sym (b .dwords-are));
+            row-is = omega (arith, p .row-is, ap partsRows t, b .rows-are);
+            at-is = omega (arith, p .at-is, d .headed .next-is, ap (λ (k : List Tree). length (rest (drop (word + leadOf q) ws) k)) t, ap length (b .dwords-are), length-append x l);
+          }

@@ -6,15 +6,16 @@ use mathlib.Core.List.{List, [], _∷_, _++_}
 use native.Mathlib.Omega.{arith}
 use lib.ListN.{length, getD, take, length-append}
 use lib.Dec.{ltb, eqb, lit<}
-use borrow.Author.Tests.{lt-ltb, le-ltb, eq-eqb, ne-eqb}
+use borrow.Author.Tests.{lt-ltb, le-ltb, eq-eqb, ne-eqb, eqb-true}
 use Rattle.format.specs.Dwords.{bytesOf}
-use Rattle.format.specs.Declarations.{layout, chained}
+use Rattle.format.specs.Counts.{within, numbers}
+use Rattle.format.specs.Declarations.{inTable, layout, chained}
 use Rattle.format.specs.Encoder.{at, chainOf, sizedRow, tokenOfRow, headOfRow}
 use Rattle.format.proofs.Dwords.{impossible}
 use Rattle.operand_walk.proofs.Fields.{row-at}
 use Rattle.operand_emit.specs.Emits.{put, Headed}
 use Rattle.operand_emit.proofs.Puts.{dwords-none, dwords-more}
-use Rattle.instruction_emit.specs.Emits.{rowFrom, packed, lowOf, sizedBy, Fits, headOf, HeadReady}
+use Rattle.instruction_emit.specs.Emits.{rowFrom, packed, lowOf, sizedBy, Fits, headOf, HeadReady, Bare}
 
 -- ---- bit 31
 pub follows-none : (n : ℕ) → n ≡ 0 → 0 ≡ cond (ltb 0 n) 1 0 * 2 ^ 31
@@ -247,3 +248,46 @@ module _ (l : List ℕ) (first : ℕ) where
             headed-chain {end} {out₂} k =
                 let t : ℕ = low + f + number 1 * 16777216 in
                 rw chain-dwords (headed-more (t ∷ []) (chainOf (number 8) (number 9) (number 10) (number 11)) place (place + 1) end out out₁ out₂ (omega (arith, g .room)) (record { next-is = refl; output-is = e₁ }) k)
+
+  -- a row of kind 1 whose token has only a code and a length
+  joined : (a b : ℕ) → a + b * 2 ^ 32 ≡ 0 → (a ≡ 0) × (b ≡ 0)
+  joined a b h = (omega arith, omega arith)
+
+  joined-one : (a b : ℕ) → a + b * 2 ^ 32 ≡ 1 → (a ≡ 1) × (b ≡ 0)
+  joined-one a b h = (omega arith, omega arith)
+
+  pub not-bare : Bare q false
+  not-bare = record { kind-one = λ z. impossible (cc); no-flags = λ z. impossible (cc); nothing-after = λ z. impossible (cc) }
+
+  pub bare-is : (a b c : ℕ) → a ≡ number 7 + number 8 * 2 ^ 32 → a ≡ 0 → b ≡ number 5 + number 6 * 2 ^ 32 → b ≡ 0 → c ≡ number 3 + number 4 * 2 ^ 32 → Bare q (eqb c 1)
+  bare-is a b c ea za eb zb ec =
+      let x = joined (number 7) (number 8) (sym ea ∙ za) in
+      let y = joined (number 5) (number 6) (sym eb ∙ zb) in
+      record {
+        kind-one = λ z. let u = joined-one (number 3) (number 4) (sym ec ∙ eqb-true c 1 z) in (row-at l first 3 (lit< tt) ∙ u .0, row-at l first 4 (lit< tt) ∙ u .1);
+        no-flags = λ z. (row-at l first 5 (lit< tt) ∙ y .0, row-at l first 6 (lit< tt) ∙ y .1);
+        nothing-after = λ z. (row-at l first 7 (lit< tt) ∙ x .0, row-at l first 8 (lit< tt) ∙ x .1);
+      }
+
+  module _ {b : Bool} (g : Bare q b) (hb : b ≡ true) where
+    pub is-one : at 3 q ≡ 0 → ⊥
+    is-one z = impossible (omega (arith, g .kind-one hb .0))
+
+    pub bare-low : number 2 ≡ lowOf q
+    bare-low = sym (row-at l first 2 (lit< tt)) ∙ omega (arith, g .kind-one hb .1, g .no-flags hb .0, g .no-flags hb .1, g .nothing-after hb .0)
+
+    pub bare-bits : number 8 ≡ 0
+    bare-bits = sym (row-at l first 8 (lit< tt)) ∙ g .nothing-after hb .1
+
+    module _ (f : Fits q) where
+      pub bare-53 : number 2 ≡ 53 → ⊥
+      unfolding layout inTable within numbers
+      bare-53 z =
+          let e : at 3 q ≡ 5 = f .kind-is ∙ ap (λ (c : ℕ). layout c .kind) (row-at l first 2 (lit< tt) ∙ z) in
+          impossible (omega (arith, e, g .kind-one hb .0))
+
+      pub bare-120 : at 2 q ≡ 120 → ⊥
+      unfolding layout inTable within numbers
+      bare-120 z =
+          let e : at 3 q ≡ 4 = f .kind-is ∙ ap (λ (c : ℕ). layout c .kind) z in
+          impossible (omega (arith, e, g .kind-one hb .0))

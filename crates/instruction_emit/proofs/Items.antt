@@ -20,7 +20,7 @@ use Rattle.format.proofs.Dwords.{impossible, both}
 use Rattle.operand_walk.specs.Confirm.{Confirmer, behind, confirmIndex, confirmed, confirmImmediates, confirmIndices, confirmFront, confirm}
 use Rattle.operand_walk.proofs.Every.{Every, unmet, met, every-then, every-if}
 use Rattle.instruction_walk.specs.Confirm.{confirmWords, confirmItem, confirmItems}
-use Rattle.instruction_emit.specs.Emits.{confirmRun, before, around}
+use Rattle.instruction_emit.specs.Emits.{confirmRun, before}
 
 -- what there is, with its equation
 every-with : {A : Type 0} {P : A → Type 0} {x : Option A} → Every P x → Every (λ a. P a × (x ≡ just a)) x
@@ -230,6 +230,10 @@ layout-led c n = go (within c (numbers 4 113)) (eqb c 53) (table-led declaration
 layout-120 : layout 120 .items ≡ d ∷ o ∷ []
 unfolding layout inTable within numbers
 layout-120 = refl
+
+-- the dwords of operands between k words in front and the words left
+abbrev pub around : ℕ → List ℕ → List Tree → List ℕ
+around k ws xs = take k ws ++ (op.partsDwords xs ++ drop (k + length (partsWords xs)) ws)
 
 -- ---- the parts of an instruction: operands between words
 pub record Around (k : ℕ) (rs ws : List ℕ) (r w : ℕ) (ps : List Tree) : Type 0 where

@@ -101,7 +101,7 @@ pub record Known (q rs ws : List ℕ) (r w : ℕ) (ps : List Tree) : Type 0 wher
   pub around : Around (before (at 2 q)) rs ws r w ps
 
 pub data Opened (q rs ws : List ℕ) (r w : ℕ) : Instruction → Type 0 where
-  words-alone : at 3 q ≡ 0 → Opened q rs ws r w (unread ws)
+  words-alone : at 3 q ≡ 0 → at 13 q ≡ 0 → Opened q rs ws r w (unread ws)
   known : {ps : List Tree} → Known q rs ws r w ps → Opened q rs ws r w (pieces (tokenOfRow q) (headOfRow q) ps)
 
 row-fits : (place r w : ℕ) (q : List ℕ) (t : ℕ) (e : List ℕ) (ps : List Tree) → q ≡ instructionRow place r w (pieces t e ps) → t ≡ tokenOfRow q → headed (layout (at 2 q)) t e (length (partsDwords ps)) ≡ true → Fits q
@@ -124,7 +124,7 @@ row-fits place r w q t e ps s et h =
 
 open-shown : (place r w : ℕ) (q rs ws : List ℕ) {i : Instruction} → Shown q rs ws r w i → q ≡ instructionRow place r w i → ws ≡ partsWords (parts i) → Opened q rs ws r w i
 unfolding parts
-open-shown place r w q rs ws not-read s e = words-alone (unfold instructionRow unreadRow in ap (at 3) s)
+open-shown place r w q rs ws not-read s e = words-alone (unfold instructionRow unreadRow in ap (at 3) s) (unfold instructionRow unreadRow in ap (at 13) s)
 open-shown place r w q rs ws (read {ps = ps} h f) s e =
     let g = row-fits place r w q (tokenOfRow q) (headOfRow q) ps s refl h in
     let n : at 13 q ≡ topLevel ps = unfold instructionRow in ap (at 13) s in

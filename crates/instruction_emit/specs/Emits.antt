@@ -1,7 +1,7 @@
 -- What is written of an instruction whose row, operand rows and words were confirmed: the bytes of its dwords.
 use Prim.Native.Nat.{ℕ, zero, suc, _+_, _*_, _^_, _<_, _≤_}
 use mathlib.Core.Path.{_≡_}
-use mathlib.Core.Bool.{Bool, false, cond, _&&_, _||_}
+use mathlib.Core.Bool.{Bool, true, false, cond, _&&_, _||_}
 use mathlib.Core.List.{List, [], _∷_, _++_}
 use mathlib.Core.Option.{Option, none as nothing, some as just}
 use lib.ListN.{length, take, drop}
@@ -14,10 +14,11 @@ use Rattle.format.specs.Instructions.{Instruction, dwords}
 use Rattle.format.specs.Rows.{partsRows, partsWords, parts}
 use Rattle.format.specs.Encoder.{at, sizedRow, tokenOfRow, headOfRow}
 use Rattle.operand_walk.specs.Confirm.{Confirms, _>>=_, behind, confirm}
-use Rattle.operand_emit.specs.Emits.{put}
+use Rattle.operand_emit.specs.Emits.{put, Headed}
 use Rattle.operand_emit.specs.declared.Ends as operand
 use Rattle.instruction_walk.specs.Confirm.{confirmInstruction}
 use Rattle.instruction_emit.specs.declared.Ends.{Ends}
+use Rattle.instruction_emit.specs.declared.Place.{Place}
 
 -- the row q, operand rows and words are confirmed to be those of an instruction: under some ceiling, in some model, at some place
 pub record Is (q rs ws : List ℕ) (row word : ℕ) (i : Instruction) : Type 0 where
@@ -75,6 +76,36 @@ pub record HeadReady (q : List ℕ) (place n : ℕ) : Type 0 where
   pub fits : Fits q
   pub room : 4 * (place + length (headOf q)) ≤ n
 
+-- ---- what stands in front of the operands
+-- a word stands before the operand of code 120, and before no other's operands
+abbrev pub before : ℕ → ℕ
+before c = cond (eqb c 120) 1 0
+
+-- so many words; none of words alone
+abbrev pub leadOf : List ℕ → ℕ
+leadOf q = cond (eqb (at 3 q) 0) 0 (before (at 2 q))
+
+-- the token, what stands after it, and those words
+abbrev pub frontOf : List ℕ → List ℕ → List ℕ
+frontOf q ws = cond (eqb (at 3 q) 0) [] (headOf q ++ take (before (at 2 q)) ws)
+
+-- they can be made, and there is room for them
+pub record FrontReady (q : List ℕ) (ws word place n : ℕ) : Type 0 where
+  pub fits : (at 3 q ≡ 0 → ⊥) → Fits q
+  pub words-there : (at 3 q ≡ 0 → ⊥) → word + before (at 2 q) ≤ ws
+  pub room : (at 3 q ≡ 0 → ⊥) → 4 * (place + (length (headOf q) + before (at 2 q))) ≤ n
+
+-- they stand there
+pub record Fronted (q ws : List ℕ) (word place : ℕ) (out : List ℕ) (f : Place) (out′ : List ℕ) : Type 0 where
+  pub word-is : f .word ≡ word + leadOf q
+  pub headed : Headed (frontOf q ws) place out (f .at) out′
+
+-- a row of kind 1 whose token has only a code and a length
+pub record Bare (q : List ℕ) (b : Bool) : Type 0 where
+  pub kind-one : b ≡ true → (at 3 q ≡ 1) × (at 4 q ≡ 0)
+  pub no-flags : b ≡ true → (at 5 q ≡ 0) × (at 6 q ≡ 0)
+  pub nothing-after : b ≡ true → (at 7 q ≡ 0) × (at 8 q ≡ 0)
+
 -- ---- the parts
 -- n operands, one after the other
 unfoldable pub confirmRun : ℕ → Confirms (List Tree)
@@ -105,23 +136,19 @@ pub record Ran (o : Option (List Tree)) (row word place : ℕ) (out : List ℕ) 
   pub word-is : ends .word ≡ word + length (partsWords (treesIn o))
   pub at-is : ends .at ≡ place + length (op.partsDwords (treesIn o))
 
--- a word stands before the operand of code 120, and before no other's operands
-abbrev pub before : ℕ → ℕ
-before c = cond (eqb c 120) 1 0
-
--- the dwords of operands between k words in front and the words left
-abbrev pub around : ℕ → List ℕ → List Tree → List ℕ
-around k ws xs = take k ws ++ (op.partsDwords xs ++ drop (k + length (partsWords xs)) ws)
+-- the dwords of operands, and the words behind theirs
+abbrev pub rest : List ℕ → List Tree → List ℕ
+rest ws xs = op.partsDwords xs ++ drop (length (partsWords xs)) ws
 
 -- the operands and the words are there, and there is room for all dwords
-pub record PartsReady (k : ℕ) (o : Option (List Tree)) (ws : List ℕ) (place n : ℕ) : Type 0 where
+pub record PartsReady (o : Option (List Tree)) (ws : List ℕ) (place n : ℕ) : Type 0 where
   pub trees : List Tree
   pub is : o ≡ just trees
-  pub words-there : k + length (partsWords trees) ≤ length ws
-  pub room : 4 * (place + length (around k ws trees)) ≤ n
+  pub words-there : length (partsWords trees) ≤ length ws
+  pub room : 4 * (place + length (rest ws trees)) ≤ n
 
 -- all dwords stand there
-pub record Parted (k : ℕ) (o : Option (List Tree)) (ws : List ℕ) (row place : ℕ) (out : List ℕ) (ends : Ends) (out′ : List ℕ) : Type 0 where
-  pub output-is : out′ ≡ put (4 * place) (bytesOf (around k ws (treesIn o))) out
+pub record Parted (o : Option (List Tree)) (ws : List ℕ) (row place : ℕ) (out : List ℕ) (ends : Ends) (out′ : List ℕ) : Type 0 where
+  pub output-is : out′ ≡ put (4 * place) (bytesOf (rest ws (treesIn o))) out
   pub row-is : ends .row ≡ row + partsRows (treesIn o)
-  pub at-is : ends .at ≡ place + length (around k ws (treesIn o))
+  pub at-is : ends .at ≡ place + length (rest ws (treesIn o))

@@ -10,11 +10,18 @@ ghost use Rattle.format.specs.Encoder as e;
 ghost use Rattle.operand_emit.specs.Emits.{put, Headed};
 ghost use Rattle.instruction_emit.specs.Emits as w;
 use operand_emit::copy;
+use operand_emit::pair;
 use operand_emit::put_dword;
 
 // The operand row and the dword of the output behind what was written.
 pub struct Ends {
     pub row: usize,
+    pub at: usize,
+}
+
+// The word and the dword of the output behind what stands in front of an instruction's operands.
+pub struct Place {
+    pub word: usize,
     pub at: usize,
 }
 
@@ -160,9 +167,50 @@ fn lead(code: u32, words: &[u32], word: usize, output: &mut [u8], at: usize) -> 
     0
 }
 
-// Writes the parts of an instruction of a code: operands, and the words beside them up to the last.
+// Tells whether a row is of kind 1 and its token has only a code and a length: most are. What fails most often is asked first.
+fn bare(instructions: &[u32], first: usize) -> bool
+    requires { ⌜ first + 16 ≤ length (now instructions) ⌝ }
+    ensures { λ r. ⌜ w.Bare (w.rowFrom first (now (instructions .entry))) r ⌝ }
+{
+    if pair(instructions[first + 7], instructions[first + 8]) != 0 {
+        return false;
+    }
+    if pair(instructions[first + 5], instructions[first + 6]) != 0 {
+        return false;
+    }
+    pair(instructions[first + 3], instructions[first + 4]) == 1
+}
+
+// Writes what stands in front of an instruction's operands. Words alone have nothing there.
+fn front(
+    instructions: &[u32],
+    first: usize,
+    words: &[u32],
+    word: usize,
+    output: &mut [u8],
+    at: usize,
+) -> Place
+    requires { ⌜ (first + 16 ≤ length (now instructions)) × w.FrontReady (w.rowFrom first (now instructions)) (length (now words)) word at (length (now output)) ⌝ }
+    ensures { λ r. ⌜ w.Fronted (w.rowFrom first (now (instructions .entry))) (drop word (now (words .entry))) word at (now (output .entry)) r (now (output .exit)) ⌝ }
+{
+    if bare(instructions, first) {
+        let t = instructions[first + 2] + instructions[first + 1] * 0x100_0000;
+        put_dword(output, at, t);
+        return Place { word, at: at + 1 };
+    }
+    if instructions[first + 3] == 0 {
+        return Place { word, at };
+    }
+    let next = head(instructions, first, output, at);
+    let k = lead(instructions[first + 2], words, word, output, next);
+    Place {
+        word: word + k,
+        at: next + k,
+    }
+}
+
+// Writes so many operands, and the words behind theirs up to the last.
 fn parts(
-    code: u32,
     operands: &[u32],
     words: &[u32],
     row: usize,
@@ -171,11 +219,10 @@ fn parts(
     output: &mut [u8],
     at: usize,
 ) -> Ends
-    requires { ⌜ (word ≤ length (now words)) × w.PartsReady (w.before code) (w.runAt count (now operands) (now words) row (word + w.before code)) (drop word (now words)) at (length (now output)) ⌝ }
-    ensures { λ r. ⌜ w.Parted (w.before code) (w.runAt count (now (operands .entry)) (now (words .entry)) row (word + w.before code)) (drop word (now (words .entry))) row at (now (output .entry)) r (now (output .exit)) ⌝ }
+    requires { ⌜ (word ≤ length (now words)) × w.PartsReady (w.runAt count (now operands) (now words) row word) (drop word (now words)) at (length (now output)) ⌝ }
+    ensures { λ r. ⌜ w.Parted (w.runAt count (now (operands .entry)) (now (words .entry)) row word) (drop word (now (words .entry))) row at (now (output .entry)) r (now (output .exit)) ⌝ }
 {
-    let k = lead(code, words, word, output, at);
-    let x = run(operands, words, row, word + k, count, output, at + k);
+    let x = run(operands, words, row, word, count, output, at);
     let n = words.len() - x.word;
     copy(words, x.word, n, output, x.at);
     Ends {
@@ -199,20 +246,14 @@ pub fn emit(
     requires { ⌜ (first + 16 ≤ length (now instructions)) × (word ≤ length (now words)) × w.Ready (w.rowFrom first (now instructions)) (drop (16 * row) (now operands)) (drop word (now words)) row word at (length (now output)) ⌝ }
     ensures { λ r. ⌜ w.Emitted (w.rowFrom first (now (instructions .entry))) (drop (16 * row) (now (operands .entry))) (drop word (now (words .entry))) row word at (now (output .entry)) r (now (output .exit)) ⌝ }
 {
-    if instructions[first + 3] == 0 {
-        let n = words.len() - word;
-        copy(words, word, n, output, at);
-        return Ends { row, at: at + n };
-    }
-    let next = head(instructions, first, output, at);
+    let x = front(instructions, first, words, word, output, at);
     parts(
-        instructions[first + 2],
         operands,
         words,
         row,
-        word,
+        x.word,
         instructions[first + 13],
         output,
-        next,
+        x.at,
     )
 }

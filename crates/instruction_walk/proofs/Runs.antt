@@ -20,7 +20,7 @@ use Rattle.instruction.specs.Measure.{rest}
 use Rattle.instruction.specs.declared.Place.{Place}
 use Rattle.instruction.specs.declared.Place.the-variants.{At, Off}
 use Rattle.operand_walk.specs.Confirm.{Confirmer, _>>=_, behind, confirmIndex, confirm, confirmFront, confirmImmediates, confirmIndices, confirmed}
-use Rattle.operand_walk.specs.Walks.{walked, there}
+use Rattle.operand_walk.specs.Walks.{walked, there, Run, empty, next}
 use Rattle.operand_walk.specs.declared.Walked.the-variants.{Is, Not}
 use Rattle.operand_walk.proofs.Every.{Every, unmet, met, every-if, every-of}
 use Rattle.operand_walk.proofs.Found.{walk-found, walk-lost}
@@ -188,3 +188,11 @@ module _ (m : Bool) (x : Shape) (rs ws : List ℕ) (r w : ℕ) (h : w ≤ length
               where
                 go : (a b w₁ i j n : ℕ) → w ≤ a → a ≤ b → b ≤ w₁ → w₁ ≤ j → n ≤ i + (b - a) → a - w + n + (w₁ - b) ≤ i + j
                 go a b w₁ i j n f g t u k = omega arith
+
+-- ---- operands that stand alone
+pub run-takes : {rs ws : List ℕ} {r w k v n : ℕ} → Run 64 rs ws r w k v n → w ≤ length ws → (m : Bool) → Takes m (replicate k o) k rs ws r w (To (r + k) v n)
+run-takes {r = r} empty h m = let z : r + 0 ≡ r = omega arith in rw z (takes-none [] refl h)
+run-takes {rs} {ws} {r} {w} (next {k} {v} {n} {a} t e) h m =
+    let d = run-takes t h m in
+    let z : r + k + 1 ≡ r + (k + 1) = omega arith in
+    rw (← (one-more k), ← z) (takes-then d (operand-takes m rs ws (r + k) v 1 a (at 15 (drop (16 * (r + k)) rs)) (bounds d .words-to) e))

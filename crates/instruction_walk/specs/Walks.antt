@@ -1,8 +1,8 @@
 -- What walking over the rows and words of an instruction answers.
-use Rattle.format.specs.Basis.{ℕ, _+_, _-_, _*_, _/_, _%_, _^_, _<_, _≤_, _≡_, List, _++_, Option, none as nothing, some as just, Bool, true, false, cond, length, take, drop, replicate, leb}
+use Rattle.format.specs.Basis.{ℕ, _+_, _-_, _*_, _/_, _%_, _^_, _<_, _≤_, _≡_, List, [], _∷_, _++_, Option, none as nothing, some as just, Bool, true, false, cond, length, take, drop, replicate, leb}
 use Rattle.format.specs.Dwords.{bits}
 use Rattle.format.specs.Framing.{code, long, sized, lengthOf}
-use Rattle.format.specs.Counts.{operandCount, Fields, tokenWith, rising, ofType, typeBits}
+use Rattle.format.specs.Counts.{within, operandCount, Fields, tokenWith, rising, ofType, typeBits}
 use Rattle.format.specs.Declarations.{Item, o, Layout, layout, inBounds}
 use Rattle.format.specs.Operands as op
 use Rattle.format.specs.Operands.{Tree}
@@ -148,21 +148,24 @@ pub record Bare (q : List ℕ) (n c : ℕ) : Type 0 where
   pub no-fields : Fielded q (record { field = 0; saturate = 0; test = 0; precise = 0; length = 0; extended = 0 })
   pub no-chain : Unchained q 0
 
--- a row without test, field and extensions, of other numbers that a token holds as they are; the field bits of 190 have saturate's
+-- a row of a code with k operands
+pub record Counted (q : List ℕ) (k : ℕ) : Type 0 where
+  pub count : operandCount (at 2 q) ≡ just k
+  pub below : at 2 q < 2048
+
+-- bits 13 and 18 of the token of a code c; only some codes have the second
+pub record Bits (c saturate test : ℕ) : Type 0 where
+  pub first : saturate < 2
+  pub second : test < 2
+  pub tested : test ≡ cond (within c (3 ∷ 5 ∷ 8 ∷ 13 ∷ 31 ∷ 63 ∷ [])) test 0
+
+-- a row without field and extensions, of other numbers that a token holds as they are; the field bits of 190 have saturate's
 pub record Plain (q : List ℕ) : Type 0 where
-  pub dwords-are : at 1 q < 128
   pub code-is : at 2 q ≡ 190 → ⊥
-  pub saturate-is : at 4 q < 2
-  pub test-is : at 5 q ≡ 0
+  pub bits-are : Bits (at 2 q) (at 4 q) (at 5 q)
   pub precise-is : at 6 q < 16
   pub field-is : at 7 q ≡ 0
   pub no-chain : Unchained q 0
-
--- such a row of a code with k operands
-pub record PlainCode (q : List ℕ) (k : ℕ) : Type 0 where
-  pub count : operandCount (at 2 q) ≡ just k
-  pub below : at 2 q < 2048
-  pub plain : Plain q
 
 -- what walking answers of a known code, in either model
 abbrev pub Known : List ℕ → ℕ → List ℕ → List ℕ → ℕ → ℕ → Walked → Type 0

@@ -1,8 +1,8 @@
 // Walks the row of an instruction, the rows of its operands and its words, which anybody may have written.
 ghost use mathlib.Core.Path.{_≡_};
-ghost use mathlib.Core.List.{[]};
+ghost use mathlib.Core.List.{[], _∷_};
 ghost use Prim.Native.Nat.{suc, _+_, _-_, _*_, _^_, _<_, _≤_};
-ghost use mathlib.Core.Bool.{cond, _&&_, _||_};
+ghost use mathlib.Core.Bool.{true, cond, _&&_, _||_};
 ghost use lib.ListN.{length, getD, take, drop, replicate};
 ghost use lib.Dec.{eqb, ltb};
 ghost use Rattle.format.specs.Framing as fr;
@@ -12,7 +12,7 @@ ghost use Rattle.format.specs.Encoder as e;
 ghost use Rattle.layouts.specs.Shapes.{Sound, Laid, listed, itemsOf};
 ghost use Rattle.instruction.specs.Measure.{Listed, rest, fieldsIn};
 ghost use Rattle.instruction_walk.specs.Confirm as c;
-ghost use Rattle.instruction_walk.specs.Walks.{walkedInstruction, Takes, PassesIn, Passes, wordsOn, Runs, rowFrom, Decides, Counts, Unchained, Chained, Headed, Fielded, Sized, Pieces, Placed, Bare, Plain, PlainCode, Known};
+ghost use Rattle.instruction_walk.specs.Walks.{walkedInstruction, Takes, PassesIn, Passes, wordsOn, Runs, rowFrom, Decides, Counts, Unchained, Chained, Headed, Fielded, Sized, Pieces, Placed, Bare, Counted, Bits, Plain, Known};
 use header::long;
 use header::sized;
 use instruction::Fields;
@@ -27,6 +27,7 @@ use layouts::counted_layout;
 use layouts::in_bounds;
 use layouts::operand_count;
 use layouts::uncounted_layout;
+use operand_walk::pair;
 
 // The operand rows and the dwords of the instruction that stands there; or these are not the rows and words of one.
 pub enum Walked {
@@ -475,34 +476,62 @@ fn known(
     }
 }
 
-// Whether a row has no test, field or extension, and other numbers that a token holds as they are.
-fn plain(instructions: &[u32], first: usize) -> bool
-    requires { ⌜ first + 16 ≤ length (now instructions) ⌝ }
-    ensures { λ r. ⌜ Decides (Plain (rowFrom first (now (instructions .entry)))) r ⌝ }
+// Whether a code has a test bit.
+fn tests(code: u32) -> bool
+    ensures { λ r. ⌜ r ≡ ct.within code (3 ∷ 5 ∷ 8 ∷ 13 ∷ 31 ∷ 63 ∷ []) ⌝ }
 {
-    if instructions[first + 5] != 0 {
-        return false;
-    }
-    if instructions[first + 7] != 0 {
-        return false;
-    }
-    if 2 <= instructions[first + 4] {
-        return false;
-    }
-    if 16 <= instructions[first + 6] {
-        return false;
-    }
-    if 128 <= instructions[first + 1] {
-        return false;
-    }
-    if instructions[first + 2] == 190 {
-        return false;
-    }
-    unchained(instructions, first, 0)
+    (code == 3) | (code == 5) | (code == 8) | (code == 13) | (code == 31) | (code == 63)
 }
 
-// Walks an instruction of a code with so many operands and a plain row: behind the operands are words as they are.
-fn counted_plain(
+// Whether a token of a code with a test holds saturate and test, which is set, as they are.
+fn tested(code: u32, saturate: u32, test: u32) -> bool
+    ensures { λ r. ⌜ (r ≡ true → Bits code saturate test) ⌝ }
+{
+    if 2 <= saturate {
+        return false;
+    }
+    if test != 1 {
+        return false;
+    }
+    tests(code)
+}
+
+// Whether a row has no field or extension, and other numbers that a token holds as they are.
+fn plain(instructions: &[u32], first: usize) -> bool
+    requires { ⌜ first + 16 ≤ length (now instructions) ⌝ }
+    ensures { λ r. ⌜ (r ≡ true → Plain (rowFrom first (now (instructions .entry)))) ⌝ }
+{
+    if 2 <= pair(instructions[first + 4], instructions[first + 5]) {
+        if !tested(
+            instructions[first + 2],
+            instructions[first + 4],
+            instructions[first + 5],
+        ) {
+            return false;
+        }
+    }
+    if 16 <= pair(instructions[first + 6], instructions[first + 7]) {
+        return false;
+    }
+    if pair(instructions[first + 8], instructions[first + 9]) != 0 {
+        return false;
+    }
+    if pair(instructions[first + 10], instructions[first + 11]) != 0 {
+        return false;
+    }
+    instructions[first + 2] != 190
+}
+
+// Counts what stands behind a place, which may be past the end.
+fn behind(n: usize, at: usize) -> usize
+    ensures { λ r. ⌜ r ≡ n - at ⌝ }
+{
+    if n < at { 0 } else { n - at }
+}
+
+// Counts the dwords of an instruction of a code with so many operands, where its row is plain and the operands stand
+// alone: behind them are words as they are. 0 says nothing.
+fn quick(
     instructions: &[u32],
     first: usize,
     place: usize,
@@ -511,33 +540,34 @@ fn counted_plain(
     words: &[u32],
     word: usize,
     count: u32,
-) -> Walked
-    requires { ⌜ (first + 16 ≤ length (now instructions)) × (word ≤ length (now words)) × PlainCode (rowFrom first (now instructions)) count ⌝ }
-    ensures { λ r. ⌜ Known (rowFrom first (now (instructions .entry))) place (drop (16 * row) (now (operands .entry))) (drop word (now (words .entry))) row word r ⌝ }
+) -> usize
+    requires { ⌜ (first + 16 ≤ length (now instructions)) × (word ≤ length (now words)) × (count < 7) × Counted (rowFrom first (now instructions)) count ⌝ }
+    ensures { λ n. ⌜ (0 < n → Known (rowFrom first (now (instructions .entry))) place (drop (16 * row) (now (operands .entry))) (drop word (now (words .entry))) row word (Walked.Is count n)) ⌝ }
 {
-    let Parts::To(r, w, n) = operands_of(operands, words, row, word, count) else {
-        return Walked::Not;
-    };
-    let dwords = 1 + (n + (words.len() - w));
-    if wide(instructions[first + 1]) != dwords {
-        return Walked::Not;
+    if !plain(instructions, first) {
+        return 0;
     }
-    if placed(
-        instructions,
-        first,
-        place,
-        1,
-        row,
-        count,
-        word,
-        words.len() - word,
-    ) {
-        return Walked::Is {
-            rows: r - row,
-            dwords,
-        };
+    let rest = words.len() - word;
+    if !placed(instructions, first, place, 1, row, count, word, rest) {
+        return 0;
     }
-    Walked::Not
+    let k = wide(count);
+    if behind(operands.len() / 16, row) < k {
+        return 0;
+    }
+    let more = operand_walk::run(operands, row, word, k, words.len());
+    if more == 0 {
+        return 0;
+    }
+    let n = k + rest + more;
+    if 128 <= n {
+        return 0;
+    }
+    if wide(instructions[first + 1]) == n {
+        n
+    } else {
+        0
+    }
 }
 
 // The length of the instruction whose dwords are the words from a word on, as they tell it.
@@ -633,8 +663,12 @@ pub fn walk(
     }
     let count = operand_count(code);
     if count < 7 {
-        if plain(instructions, at) {
-            return counted_plain(instructions, at, place, operands, row, words, word, count);
+        let n = quick(instructions, at, place, operands, row, words, word, count);
+        if n != 0 {
+            return Walked::Is {
+                rows: wide(count),
+                dwords: n,
+            };
         }
     }
     known(instructions, at, place, model51, operands, row, words, word)

@@ -1,21 +1,19 @@
 -- Laws of an operand's dword and its extension, made from the numbers of its row.
 use Prim.Native.Nat.{ℕ, zero, suc, _+_, _-_, _*_, _/_, _%_, _^_, _<_, _≤_}
 use mathlib.Core.Path.{_≡_, refl, sym, ap, _∙_}
-use mathlib.Core.Bool.{Bool, true, _&&_}
 use mathlib.Core.List.{List, [], _∷_}
 use native.Mathlib.Nat.{add-zero}
 use native.Mathlib.Omega.{arith}
 use lib.ListN.{length, getD, take, drop}
-use lib.Dec.{eqb, lit<}
-use borrow.Author.Tests.{eq-eqb, ne-eqb, eqb-true}
+use lib.Dec.{lit<}
 use Rattle.format.specs.Dwords.{bytesOf}
 use Rattle.format.specs.Operands as op
 use Rattle.format.specs.Encoder.{at, extensionOf, operandDword}
-use Rattle.format.proofs.Dwords.{impossible, both}
+use Rattle.format.proofs.Dwords.{impossible}
 use Rattle.format.proofs.Made.{extension-of}
 use Rattle.operand_walk.proofs.Fields.{row-at}
-use Rattle.operand_emit.specs.Emits.{put, headOf, Headed, Fits}
-use Rattle.operand_emit.proofs.Puts.{dwords-more}
+use Rattle.operand_emit.specs.Emits.{put, headOf, Headed, Fits, flatOf, Way}
+use Rattle.operand_emit.proofs.Puts.{positive, dwords-more}
 
 pub low-below : (f : ℕ) → f < 3 → f ≡ getD (0 ∷ 1 ∷ 2 ∷ 6 ∷ 10 ∷ []) f 0
 low-below zero h = refl
@@ -37,11 +35,7 @@ unfolding extensionOf
 no-extension m h = rw h
 
 pub an-extension : (m : ℕ) → (m ≡ 0 → ⊥) → extensionOf m ≡ op.extensionWith (m % 4) (m / 16) (m / 4 % 2) ∷ []
-an-extension m h = extension-of m (some m h)
-  where
-    some : (m : ℕ) → (m ≡ 0 → ⊥) → 0 < m
-    some zero h = absurd (h refl)
-    some (suc m) h = omega arith
+an-extension m h = extension-of m (positive m h)
 
 module _ (f s k d r m l : ℕ) (el : l ≡ getD (0 ∷ 1 ∷ 2 ∷ 6 ∷ 10 ∷ []) f 0) where
   pub pack-plain : m ≡ 0 → (((r * 4 + d) * 256 + k) * 256 + s) * 16 + l ≡ op.dwordWith f s k d r (length (extensionOf m))
@@ -57,16 +51,6 @@ unfolding operandDword
 dword-at rs o =
     let e₀ : getD rs o 0 ≡ getD (take 16 (drop o rs)) 0 0 = ap (λ (j : ℕ). getD rs j 0) (sym (add-zero o)) ∙ sym (row-at rs o 0 (lit< tt)) in
     λ i. op.dwordWith (sym (row-at rs o 1 (lit< tt)) i) (sym (row-at rs o 2 (lit< tt)) i) (e₀ i) (sym (row-at rs o 6 (lit< tt)) i) (sym (row-at rs o 7 (lit< tt)) i) (length (extensionOf (sym (row-at rs o 3 (lit< tt)) i)))
-
--- the test that an operand has no operand in it and no modifiers
-pub plain-yes : (a b : ℕ) → a ≡ 1 → eqb b 0 ≡ (eqb a 1 && eqb b 0)
-plain-yes a b h = rw (eq-eqb a 1 h)
-
-pub plain-no : (a b : ℕ) → (a ≡ 1 → ⊥) → eqb a 1 ≡ (eqb a 1 && eqb b 0)
-plain-no a b h = rw (ne-eqb a 1 h)
-
-pub plain-is : (a b : ℕ) {p : Bool} → p ≡ (eqb a 1 && eqb b 0) → p ≡ true → (a ≡ 1) × (b ≡ 0)
-plain-is a b e h = let z = both (eqb a 1) (eqb b 0) (sym e ∙ h) in (eqb-true a 1 (z .0), eqb-true b 0 (z .1))
 
 -- a head is one dword without modifiers, and two with some
 module _ (rs : List ℕ) (o : ℕ) where
@@ -90,6 +74,99 @@ module _ (rs : List ℕ) (o : ℕ) where
     headed-two h room x ex e₂ =
         rw (head-two h x ex, ← et)
         (record { next-is = refl; output-is = dwords-more place (place + 1) (t ∷ []) (x ∷ []) out (omega arith) refl e₁ e₂ })
+
+-- ---- without representations
+pub flat-plain : (q : List ℕ) → at 7 q ≡ 0 → at 3 q ≡ 0 → flatOf q ≡ operandDword q
+unfolding operandDword
+flat-plain q h m = rw (h, no-extension (at 3 q) m) (omega arith)
+
+pub flat-extended : (q : List ℕ) → at 7 q ≡ 0 → 0 < at 3 q → flatOf q + 2147483648 ≡ operandDword q
+unfolding operandDword
+flat-extended q h m = rw (h, extension-of (at 3 q) m) (omega arith)
+
+module _ (rs : List ℕ) (o : ℕ) where
+  abbrev Q : List ℕ
+  Q = take 16 (drop o rs)
+
+  -- the numbers where they are read
+  abbrev flat-there : ℕ
+  flat-there = getD (0 ∷ 1 ∷ 2 ∷ 6 ∷ 10 ∷ []) (getD rs (o + 1) 0) 0 + getD rs (o + 2) 0 * 2 ^ 4 + getD rs o 0 * 2 ^ 12 + getD rs (o + 6) 0 * 2 ^ 20
+
+  flat-at : flat-there ≡ flatOf Q
+  flat-at =
+      let e₀ : getD rs o 0 ≡ getD Q 0 0 = ap (λ (j : ℕ). getD rs j 0) (sym (add-zero o)) ∙ sym (row-at rs o 0 (lit< tt)) in
+      λ i. getD (0 ∷ 1 ∷ 2 ∷ 6 ∷ 10 ∷ []) (sym (row-at rs o 1 (lit< tt)) i) 0 + sym (row-at rs o 2 (lit< tt)) i * 2 ^ 4 + e₀ i * 2 ^ 12 + sym (row-at rs o 6 (lit< tt)) i * 2 ^ 20
+
+  pub flat-made : (l : ℕ) → l ≡ getD (0 ∷ 1 ∷ 2 ∷ 6 ∷ 10 ∷ []) (getD rs (o + 1) 0) 0 → getD rs o 0 * 4096 + getD rs (o + 2) 0 * 16 + l + getD rs (o + 6) 0 * 1048576 ≡ flatOf Q
+  flat-made l e = omega (arith, e) ∙ flat-at
+
+  pub flat-room : Fits Q → flat-there < 2 ^ 32
+  unfolding operandDword
+  flat-room f = rw flat-at (omega (arith, f .dword-fits))
+
+  pub flat-form : Fits Q → getD rs (o + 1) 0 < 5
+  flat-form f = omega (arith, f .form-fits, row-at rs o 1 (lit< tt))
+
+  -- the short ways, by what was read of a row
+  abbrev R : ℕ → ℕ
+  R k = getD rs (o + k) 0
+
+  joined : (a b : ℕ) → a + b * 2 ^ 32 ≡ 1 → (a ≡ 1) × (b ≡ 0)
+  joined a b h = (omega arith, omega arith)
+
+  pub way-one : {v : ℕ} → v ≡ R 6 + R 7 * 2 ^ 32 → v ≡ 1 → R 3 ≡ 0 → Way Q 1
+  way-one e h m =
+      let z = joined (R 6) (R 7) (sym e ∙ h) in
+      record {
+        one = λ w. (row-at rs o 3 (lit< tt) ∙ m, row-at rs o 7 (lit< tt) ∙ z .1, row-at rs o 6 (lit< tt) ∙ z .0);
+        two = λ w. impossible (omega arith);
+        modified = λ w. impossible (omega arith);
+        four = λ w. impossible (omega arith);
+        immediate = λ w. impossible (omega arith);
+      }
+
+  pub way-modified : {v : ℕ} → v ≡ R 6 + R 7 * 2 ^ 32 → v ≡ 1 → (R 3 ≡ 0 → ⊥) → Way Q 3
+  way-modified e h m =
+      let z = joined (R 6) (R 7) (sym e ∙ h) in
+      let p : 0 < R 3 = positive (R 3) m in
+      record {
+        one = λ w. impossible (omega arith);
+        two = λ w. impossible (omega arith);
+        modified = λ w. (omega (arith, row-at rs o 3 (lit< tt)), row-at rs o 7 (lit< tt) ∙ z .1, row-at rs o 6 (lit< tt) ∙ z .0);
+        four = λ w. impossible (omega arith);
+        immediate = λ w. impossible (omega arith);
+      }
+
+  module _ (m : R 3 ≡ 0) (h : R 7 ≡ 0) where
+    pub way-two : R 6 ≡ 2 → Way Q 2
+    way-two d =
+        record {
+          one = λ w. impossible (omega arith);
+          two = λ w. (row-at rs o 3 (lit< tt) ∙ m, row-at rs o 7 (lit< tt) ∙ h, row-at rs o 6 (lit< tt) ∙ d);
+          modified = λ w. impossible (omega arith);
+          four = λ w. impossible (omega arith);
+          immediate = λ w. impossible (omega arith);
+        }
+
+    pub way-four : R 15 ≡ 5 → Way Q 4
+    way-four d =
+        record {
+          one = λ w. impossible (omega arith);
+          two = λ w. impossible (omega arith);
+          modified = λ w. impossible (omega arith);
+          four = λ w. (row-at rs o 3 (lit< tt) ∙ m, row-at rs o 7 (lit< tt) ∙ h, row-at rs o 15 (lit< tt) ∙ d);
+          immediate = λ w. impossible (omega arith);
+        }
+
+    pub way-immediate : R 15 ≡ 2 → Way Q 5
+    way-immediate d =
+        record {
+          one = λ w. impossible (omega arith);
+          two = λ w. impossible (omega arith);
+          modified = λ w. impossible (omega arith);
+          four = λ w. impossible (omega arith);
+          immediate = λ w. (row-at rs o 3 (lit< tt) ∙ m, row-at rs o 7 (lit< tt) ∙ h, row-at rs o 15 (lit< tt) ∙ d);
+        }
 
 -- what fits of a row fits where it is read
 module _ (rs : List ℕ) (o : ℕ) (f : Fits (take 16 (drop o rs))) where

@@ -1,5 +1,6 @@
 pub mod Puts
 pub mod Heads
+pub mod Flats
 pub mod Opened
 pub mod Emitting
 pub mod Trees

@@ -1,6 +1,6 @@
 -- What a confirmed operand is made of, and what its row says.
-use Prim.Native.Nat.{ℕ, zero, suc, _+_, _-_, _%_, _^_, _<_, _≤_}
-use mathlib.Core.Path.{_≡_, refl, ap}
+use Prim.Native.Nat.{ℕ, zero, suc, _+_, _-_, _*_, _%_, _^_, _<_, _≤_}
+use mathlib.Core.Path.{_≡_, refl, sym, ap, subst, _∙_}
 use mathlib.Core.Bool.{Bool, true, false, cond, _&&_}
 use mathlib.Core.List.{List, [], _∷_, _++_, append-assoc}
 use mathlib.Core.Option.{Option, none as nothing, some as just}
@@ -8,7 +8,7 @@ use native.Mathlib.Numerals.{sub-one}
 use native.Mathlib.Omega.{arith}
 use lib.ListN.{length, take, drop}
 use lib.Dec.{leb, eqb, ltb}
-use borrow.Author.Tests.{leb-true, ltb-true}
+use borrow.Author.Tests.{leb-true, ltb-true, eqb-true}
 use Rattle.format.specs.Dwords.{bits}
 use Rattle.format.specs.Operands as op
 use Rattle.format.specs.Operands.{Tree, none, plain, node, immediate, immediates, repr, dwords}
@@ -20,6 +20,7 @@ use Rattle.operand_walk.proofs.Every.{Every, unmet, met, every-then, every-if, 
 use Rattle.format.proofs.Encoder.{same-eq}
 use Rattle.operand_walk.proofs.Fields.{exact-below}
 use Rattle.operand_emit.specs.Emits.{headOf, Fits}
+use Rattle.operand_emit.proofs.Flats.{Flat, wordy, flat-three}
 
 pub every-self : {A : Type 0} (o : Option A) → Every (λ a. o ≡ just a) o
 every-self nothing = unmet
@@ -83,6 +84,7 @@ pub record Opened (p : Confirmer) (rs ws : List ℕ) (r w : ℕ) (x : Tree) : Ty
   pub rows-are : at 14 (take 16 rs) ≡ treeRows x
   pub dwords-are : at 15 (take 16 rs) ≡ length (dwords x)
   pub lone : treeRows x ≡ 1 → dwords x ≡ headOf (take 16 rs) ++ treeWords x
+  pub flat : at 7 (take 16 rs) ≡ 0 → Flat (at 6 (take 16 rs)) x
   pub indices : (treeRows x ≡ 1 → ⊥) → Indices p rs ws r w x
 
 module _ (p : Confirmer) (rs ws : List ℕ) (r w : ℕ) where
@@ -92,9 +94,10 @@ module _ (p : Confirmer) (rs ws : List ℕ) (r w : ℕ) where
   module _ (l : leb 16 (length rs) ≡ true) (x : op.exactDword (operandDword Q) ≡ true) where
     opened : (m : List ℕ) (a b c : Tree) → Q ≡ operandRow r w (operandDword Q) (extensionOf (at 3 Q)) m a b c →
         ((treeRows (node (operandDword Q) (extensionOf (at 3 Q)) m a b c) ≡ 1 → ⊥) → Indices p rs ws r w (node (operandDword Q) (extensionOf (at 3 Q)) m a b c)) →
+        (op.reprs (operandDword Q) ≡ 0 → Flat (op.dimension (operandDword Q)) (node (operandDword Q) (extensionOf (at 3 Q)) m a b c)) →
         Opened p rs ws r w (node (operandDword Q) (extensionOf (at 3 Q)) m a b c)
     unfolding operandRow
-    opened m a b c s f =
+    opened m a b c s f k =
         record {
           row-there = leb-true 16 (length rs) l;
           fits = fits-of Q r w m a b c x s;
@@ -102,21 +105,26 @@ module _ (p : Confirmer) (rs ws : List ℕ) (r w : ℕ) where
           dwords-are = ap (at 15) s;
           lone = one-row (operandDword Q) (extensionOf (at 3 Q)) m a b c;
           indices = f;
+          flat = λ z. subst (λ (d : ℕ). Flat d (node (operandDword Q) (extensionOf (at 3 Q)) m a b c)) (sym (ap (at 6) s)) (k (sym (ap (at 7) s) ∙ z));
         }
 
     every-opened : (m : List ℕ) (a b c : Tree) →
         ((treeRows (node (operandDword Q) (extensionOf (at 3 Q)) m a b c) ≡ 1 → ⊥) → Indices p rs ws r w (node (operandDword Q) (extensionOf (at 3 Q)) m a b c)) →
+        (op.reprs (operandDword Q) ≡ 0 → Flat (op.dimension (operandDword Q)) (node (operandDword Q) (extensionOf (at 3 Q)) m a b c)) →
         Every (Opened p rs ws r w) (confirmed Q r w (operandDword Q) (extensionOf (at 3 Q)) m a b c)
     unfolding confirmed
-    every-opened m a b c f = every-if (same Q _) _ _ (λ s. met (opened m a b c (same-eq Q _ s) f)) (λ s. unmet)
+    every-opened m a b c f k = every-if (same Q _) _ _ (λ s. met (opened m a b c (same-eq Q _ s) f k)) (λ s. unmet)
 
     leaf-rows : (m : List ℕ) → treeRows (node (operandDword Q) (extensionOf (at 3 Q)) m none none none) ≡ 1
     unfolding treeRows
     leaf-rows m = refl
 
+    leaf-flat : (m : List ℕ) → op.dimension (operandDword Q) ≡ 0 → Flat (op.dimension (operandDword Q)) (node (operandDword Q) (extensionOf (at 3 Q)) m none none none)
+    leaf-flat m h = record { one-row = leaf-rows m; words-are = λ l. impossible (omega arith) }
+
     opened-leaf : Every (Opened p rs ws r w) (confirmImmediates Q (operandDword Q) (extensionOf (at 3 Q)) ws r w)
     unfolding confirmImmediates
-    opened-leaf = every-if (eqb (op.dimension (operandDword Q)) 0 && leb (immediates (operandDword Q)) (length ws)) _ _ (λ z. every-opened (take (immediates (operandDword Q)) ws) none none none (λ n. absurd (n (leaf-rows (take (immediates (operandDword Q)) ws))))) (λ z. unmet)
+    opened-leaf = every-if (eqb (op.dimension (operandDword Q)) 0 && leb (immediates (operandDword Q)) (length ws)) _ _ (λ z. every-opened (take (immediates (operandDword Q)) ws) none none none (λ n. absurd (n (leaf-rows (take (immediates (operandDword Q)) ws)))) (λ e. leaf-flat (take (immediates (operandDword Q)) ws) (eqb-true (op.dimension (operandDword Q)) 0 (both _ _ z .0)))) (λ z. unmet)
 
     opened-indices : Every (Opened p rs ws r w) (confirmIndices p Q (operandDword Q) (extensionOf (at 3 Q)) (drop 16 rs) ws r w)
     unfolding confirmIndices
@@ -124,7 +132,10 @@ module _ (p : Confirmer) (rs ws : List ℕ) (r w : ℕ) where
         every-then (every-self (confirmIndex p (repr 0 (operandDword Q)) (drop 16 rs) ws (r + 1) w)) (λ a ea.
         every-then (every-self (behind a (confirmIndex p (repr 1 (operandDword Q))) (drop 16 rs) ws (r + 1) w)) (λ b eb.
         every-then (every-self (behind a (behind b (confirmIndex p (repr 2 (operandDword Q)))) (drop 16 rs) ws (r + 1) w)) (λ c ec.
-        every-opened [] a b c (λ n. record { first = a; second = b; third = c; first-is = ea; second-is = eb; third-is = ec; is = refl }))))
+        every-opened [] a b c (λ n. record { first = a; second = b; third = c; first-is = ea; second-is = eb; third-is = ec; is = refl }) (flat-three (operandDword Q) (extensionOf (at 3 Q)) a b c
+        (wordy p (repr 0 (operandDword Q)) (drop 16 rs) ws (r + 1) w ea)
+        (wordy p (repr 1 (operandDword Q)) (drop (16 * treeRows a) (drop 16 rs)) (drop (length (treeWords a)) ws) (r + 1 + treeRows a) (w + length (treeWords a)) eb)
+        (wordy p (repr 2 (operandDword Q)) (drop (16 * treeRows b) (drop (16 * treeRows a) (drop 16 rs))) (drop (length (treeWords b)) (drop (length (treeWords a)) ws)) (r + 1 + treeRows a + treeRows b) (w + length (treeWords a) + length (treeWords b)) ec)))))
 
 opened-all : (k : ℕ) (rs ws : List ℕ) (r w : ℕ) → Every (Opened (confirm (k - 1)) rs ws r w) (confirm k rs ws r w)
 unfolding confirm confirmFront

@@ -8,6 +8,7 @@ use native.Mathlib.Omega.{arith}
 use lib.ListN.{length, take, drop, getD, set, length-append, length-drop, take-append-drop}
 use lib.Seq.{take-at, drop-at, drop-drop, drop-cons, length-take-le, take-suc, take-add, getD-drop, sets-eq}
 use Rattle.format.specs.Dwords.{bytesOf}
+use Rattle.format.proofs.Dwords.{impossible}
 use Rattle.operand_emit.specs.Emits.{put}
 
 -- ---- the bytes of dwords
@@ -71,7 +72,7 @@ stored out at x h =
     (λ i. set (set (set (set out a (x % 256)) (e₁ i) (x / 256 % 256)) (e₂ i) (x / 65536 % 256)) (e₃ i) (x / 16777216 % 256))
     ∙ sets-eq (x % 256 ∷ x / 256 % 256 ∷ x / 65536 % 256 ∷ x / 16777216 % 256 ∷ []) out a (omega arith)
 
-positive : (n : ℕ) → (n ≡ 0 → ⊥) → 0 < n
+pub positive : (n : ℕ) → (n ≡ 0 → ⊥) → 0 < n
 positive zero h = absurd (h refl)
 positive (suc n) h = omega arith
 
@@ -124,3 +125,18 @@ module _ (ws : List ℕ) (word n at : ℕ) (out₀ : List ℕ) where
         let z : take 2 (drop word ws) ++ take (n - 2) (drop (word + 2) ws) ≡ take n (drop word ws) =
         ap (λ (k : List ℕ). take 2 (drop word ws) ++ take (n - 2) k) (sym (drop-drop 2 word ws)) ∙ sym (take-add 2 (n - 2) (drop word ws)) ∙ ap (λ (j : ℕ). take j (drop word ws)) sum in
         rw z at (dwords-more at (at + 2) (take 2 (drop word ws)) (take (n - 2) (drop (word + 2) ws)) out₀ (omega arith) (omega arith) (two .is) e₃)
+
+    -- two and four words, without a loop
+    module _ {out₂ : List ℕ} (e₂ : out₂ ≡ put (4 * (at + 1)) (bytesOf (getD ws (word + 1) 0 ∷ [])) out₁) where
+      pub copied-two : n ≡ 2 → out₂ ≡ put (4 * at) (bytesOf (take n (drop word ws))) out₀
+      copied-two en =
+          let sum : 1 + 1 ≡ n = omega arith in
+          copying-more 1 (copying-one (λ z. impossible (omega arith))) hw ho (omega arith) e₂ .is ∙ ap (λ (j : ℕ). put (4 * at) (bytesOf (take j (drop word ws))) out₀) sum
+
+      pub copied-four : n ≡ 4 → {out₃ out₄ : List ℕ} → out₃ ≡ put (4 * (at + 2)) (bytesOf (getD ws (word + 2) 0 ∷ [])) out₂ →
+          out₄ ≡ put (4 * (at + 3)) (bytesOf (getD ws (word + 3) 0 ∷ [])) out₃ → out₄ ≡ put (4 * at) (bytesOf (take n (drop word ws))) out₀
+      copied-four en e₃ e₄ =
+          let two = copying-more 1 (copying-one (λ z. impossible (omega arith))) hw ho (omega arith) e₂ in
+          let three = copying-more 2 two hw ho (omega arith) e₃ in
+          let sum : 3 + 1 ≡ n = omega arith in
+          copying-more 3 three hw ho (omega arith) e₄ .is ∙ ap (λ (j : ℕ). put (4 * at) (bytesOf (take j (drop word ws))) out₀) sum

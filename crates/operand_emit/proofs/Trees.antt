@@ -21,9 +21,10 @@ use Rattle.operand_walk.specs.Walks.{there, rowAt}
 use Rattle.operand_walk.proofs.Every.{Every, unmet, met, every-then, every-if, every-of}
 use Rattle.operand_walk.proofs.Fields.{row-at}
 use Rattle.operand_walk.proofs.Sound.{sound}
-use Rattle.operand_emit.specs.Emits.{put, Ready, Emitted, headOf, Headed, Fits, wordsLeft, Lone, Stood}
+use Rattle.operand_emit.specs.Emits.{put, Ready, Emitted, headOf, Headed, Fits, wordsLeft, Lone, Stood, Few}
 use Rattle.operand_emit.specs.declared.Ends.{Ends}
 use Rattle.operand_emit.proofs.Puts.{dwords-more}
+use Rattle.operand_emit.proofs.Heads.{no-extension}
 use Rattle.operand_emit.proofs.Opened.{every-self, Indices, Opened, opens, some-left}
 
 emitted-of : {o : Option Tree} {x : Tree} {row word place : ℕ} {out : List ℕ} {ends : Ends} {out′ : List ℕ} → o ≡ just x → Emitted (just x) row word place out ends out′ → Emitted o row word place out ends out′
@@ -31,6 +32,17 @@ emitted-of {row = row} {word = word} {place = place} {out = out} {ends = ends} {
 
 emitted-as : {o : Option Tree} {x : Tree} {row word place : ℕ} {out : List ℕ} {ends : Ends} {out′ : List ℕ} → o ≡ just x → Emitted o row word place out ends out′ → Emitted (just x) row word place out ends out′
 emitted-as {row = row} {word = word} {place = place} {out = out} {ends = ends} {out′ = out′} e h = subst (λ (o : Option Tree). Emitted o row word place out ends out′) e h
+
+-- ---- pools that are lent whole
+lent : (l : List ℕ) → take (length l - 0) l ≡ l
+lent l = let z : length l - 0 ≡ length l = omega arith in ap (λ (j : ℕ). take j l) z ∙ ap (take (length l)) (sym (append-nil l)) ∙ take-at l [] (length l) refl
+
+module _ (left : ℕ) (rs ws : List ℕ) (row word place : ℕ) where
+  pub ready-lent : (n : ℕ) → Ready (there (confirm left) rs ws row word) place n → Ready (there (confirm left) (take (length rs - 0) rs) (take (length ws - 0) ws) row word) place n
+  ready-lent n g = rw (lent rs, lent ws) g
+
+  pub emitted-lent : {out : List ℕ} {ends : Ends} {out′ : List ℕ} → Emitted (there (confirm left) (take (length rs - 0) rs) (take (length ws - 0) ws) row word) row word place out ends out′ → Emitted (there (confirm left) rs ws row word) row word place out ends out′
+  emitted-lent g = rw (lent rs, lent ws) at g
 
 -- ---- an index: words of its own, and an operand if there is one in it
 record Index (p : Confirmer) (i : ℕ) (rs ws : List ℕ) (r w : ℕ) (x : Tree) : Type 0 where
@@ -159,6 +171,17 @@ module _ (left : ℕ) (rs ws : List ℕ) (row word place n : ℕ) (g : Ready (th
           word-is = s .word-is ∙ ap (λ (j : ℕ). word + j) lone-left;
           at-is = s .at-is ∙ ap (λ (j : ℕ). place + j) (whole .dwords-are);
         })
+
+  -- without representations
+  module _ (h : at 7 (rowAt row rs) ≡ 0) where
+    pub flat-rows : getD rs (16 * row + 14) 0 ≡ 1
+    flat-rows = rows-at ∙ whole .flat h .one-row
+
+    pub indices-few : (d : ℕ) → 0 < d → at 6 (rowAt row rs) ≡ d → Few (rowAt row rs) d
+    indices-few d l e = record { no-reprs = h; left-is = lone-left flat-rows ∙ whole .flat h .words-are (omega arith) ∙ e }
+
+    pub dwords-few : at 3 (rowAt row rs) ≡ 0 → (k : ℕ) → at 15 (rowAt row rs) ≡ k + 1 → Few (rowAt row rs) k
+    dwords-few m k e = record { no-reprs = h; left-is = omega (arith, ap length (no-extension (at 3 (rowAt row rs)) m)) }
 
   -- by its indices
   module _ (h : getD rs (16 * row + 14) 0 ≡ 1 → ⊥) where

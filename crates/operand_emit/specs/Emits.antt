@@ -1,9 +1,9 @@
 -- What is written of an operand whose rows and words were confirmed: the bytes of its dwords.
 use Prim.Native.Nat.{ℕ, _+_, _-_, _*_, _^_, _<_, _≤_}
 use mathlib.Core.Path.{_≡_}
-use mathlib.Core.List.{List, _∷_, _++_}
+use mathlib.Core.List.{List, [], _∷_, _++_}
 use mathlib.Core.Option.{Option, none as nothing, some as just}
-use lib.ListN.{length, take, drop}
+use lib.ListN.{length, getD, take, drop}
 use Rattle.format.specs.Dwords.{bytesOf}
 use Rattle.format.specs.Operands.{Tree, none, dwords}
 use Rattle.format.specs.Rows.{treeRows, treeWords}
@@ -64,3 +64,21 @@ pub record Stood (q ws : List ℕ) (row word place : ℕ) (out : List ℕ) (ends
   pub row-is : ends .row ≡ row + 1
   pub word-is : ends .word ≡ word + wordsLeft q
   pub at-is : ends .at ≡ place + at 15 q
+
+-- ---- without a loop
+-- the dword of a row without representations, but for bit 31
+abbrev pub flatOf : List ℕ → ℕ
+flatOf q = getD (0 ∷ 1 ∷ 2 ∷ 6 ∷ 10 ∷ []) (at 1 q) 0 + at 2 q * 2 ^ 4 + at 0 q * 2 ^ 12 + at 6 q * 2 ^ 20
+
+-- a row without representations, and so many words behind its head
+pub record Few (q : List ℕ) (k : ℕ) : Type 0 where
+  pub no-reprs : at 7 q ≡ 0
+  pub left-is : wordsLeft q ≡ k
+
+-- what a row is like that goes a short way
+pub record Way (q : List ℕ) (r : ℕ) : Type 0 where
+  pub one : r ≡ 1 → (at 3 q ≡ 0) × (at 7 q ≡ 0) × (at 6 q ≡ 1)
+  pub two : r ≡ 2 → (at 3 q ≡ 0) × (at 7 q ≡ 0) × (at 6 q ≡ 2)
+  pub modified : r ≡ 3 → (0 < at 3 q) × (at 7 q ≡ 0) × (at 6 q ≡ 1)
+  pub four : r ≡ 4 → (at 3 q ≡ 0) × (at 7 q ≡ 0) × (at 15 q ≡ 5)
+  pub immediate : r ≡ 5 → (at 3 q ≡ 0) × (at 7 q ≡ 0) × (at 15 q ≡ 2)

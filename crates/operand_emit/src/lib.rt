@@ -2,9 +2,7 @@
 ghost use mathlib.Core.Path.{_≡_};
 ghost use mathlib.Core.List.{[], _∷_};
 ghost use Prim.Native.Nat.{ℕ, _+_, _-_, _*_, _/_, _%_, _^_, _<_, _≤_};
-ghost use mathlib.Core.Bool.{_&&_};
 ghost use lib.ListN.{length, getD, take, drop};
-ghost use lib.Dec.{eqb};
 ghost use Rattle.format.specs.Dwords.{bytesOf};
 ghost use Rattle.format.specs.Operands as op;
 ghost use Rattle.format.specs.Encoder as e;
@@ -137,8 +135,24 @@ fn lone(
     }
 }
 
-// Writes an operand with no operand in it and no modifiers. Most have one word.
-fn short(
+// Joins two neighbouring words: they are compared at once.
+pub fn pair(low: u32, high: u32) -> u64
+    ensures { λ r. ⌜ r ≡ low + high * 2 ^ 32 ⌝ }
+{
+    low as u64 + high as u64 * 0x1_0000_0000
+}
+
+// Makes the dword of an operand without representations from the row at a place, but for bit 31.
+fn flat_dword(operands: &[u32], o: usize) -> u32
+    requires { ⌜ (o + 16 ≤ length (now operands)) × w.Fits (take 16 (drop o (now operands))) ⌝ }
+    ensures { λ r. ⌜ r ≡ w.flatOf (take 16 (drop o (now (operands .entry)))) ⌝ }
+{
+    let front = operands[o] * 0x1000 + operands[o + 2] * 0x10 + low(operands[o + 1]);
+    front + operands[o + 6] * 0x10_0000
+}
+
+// Writes an operand without modifiers and with one word behind its dword.
+fn with_word(
     operands: &[u32],
     words: &[u32],
     row: usize,
@@ -146,26 +160,94 @@ fn short(
     output: &mut [u8],
     at: usize,
 ) -> Ends
-    requires { ⌜ (16 * row + 16 ≤ length (now operands)) × (e.at 3 (rowAt row (now operands)) ≡ 0) × w.Lone (rowAt row (now operands)) (length (now words)) word at (length (now output)) ⌝ }
+    requires { ⌜ (16 * row + 16 ≤ length (now operands)) × (e.at 3 (rowAt row (now operands)) ≡ 0) × w.Few (rowAt row (now operands)) 1 × w.Lone (rowAt row (now operands)) (length (now words)) word at (length (now output)) ⌝ }
     ensures { λ r. ⌜ w.Stood (rowAt row (now (operands .entry))) (now (words .entry)) row word at (now (output .entry)) r (now (output .exit)) ⌝ }
 {
-    let o = 16 * row;
-    let dwords = operands[o + 15] as usize;
-    let n = dwords - 1;
-    put_dword(output, at, dword(operands, o));
-    if dwords == 2 {
-        put_dword(output, at + 1, words[word]);
-        return Ends {
-            row: row + 1,
-            word: word + 1,
-            at: at + 2,
-        };
-    }
-    copy(words, word, n, output, at + 1);
+    let t = flat_dword(operands, 16 * row);
+    put_dword(output, at, t);
+    put_dword(output, at + 1, words[word]);
     Ends {
         row: row + 1,
-        word: word + n,
-        at: at + dwords,
+        word: word + 1,
+        at: at + 2,
+    }
+}
+
+// Writes an operand with modifiers and one word behind their extension.
+fn with_modifiers(
+    operands: &[u32],
+    words: &[u32],
+    row: usize,
+    word: usize,
+    output: &mut [u8],
+    at: usize,
+) -> Ends
+    requires { ⌜ (16 * row + 16 ≤ length (now operands)) × (0 < e.at 3 (rowAt row (now operands))) × w.Few (rowAt row (now operands)) 1 × w.Lone (rowAt row (now operands)) (length (now words)) word at (length (now output)) ⌝ }
+    ensures { λ r. ⌜ w.Stood (rowAt row (now (operands .entry))) (now (words .entry)) row word at (now (output .entry)) r (now (output .exit)) ⌝ }
+{
+    let t = flat_dword(operands, 16 * row);
+    put_dword(output, at, t + 0x8000_0000);
+    put_dword(output, at + 1, extension(operands[16 * row + 3]));
+    put_dword(output, at + 2, words[word]);
+    Ends {
+        row: row + 1,
+        word: word + 1,
+        at: at + 3,
+    }
+}
+
+// Writes an operand without modifiers and with two words behind its dword. All are read before any is stored: so they are
+// copied at once.
+fn with_two(
+    operands: &[u32],
+    words: &[u32],
+    row: usize,
+    word: usize,
+    output: &mut [u8],
+    at: usize,
+) -> Ends
+    requires { ⌜ (16 * row + 16 ≤ length (now operands)) × (e.at 3 (rowAt row (now operands)) ≡ 0) × w.Few (rowAt row (now operands)) 2 × w.Lone (rowAt row (now operands)) (length (now words)) word at (length (now output)) ⌝ }
+    ensures { λ r. ⌜ w.Stood (rowAt row (now (operands .entry))) (now (words .entry)) row word at (now (output .entry)) r (now (output .exit)) ⌝ }
+{
+    let t = flat_dword(operands, 16 * row);
+    let a = words[word];
+    let b = words[word + 1];
+    put_dword(output, at, t);
+    put_dword(output, at + 1, a);
+    put_dword(output, at + 2, b);
+    Ends {
+        row: row + 1,
+        word: word + 2,
+        at: at + 3,
+    }
+}
+
+// Writes an operand without modifiers and with four words behind its dword, in the same manner.
+fn with_four(
+    operands: &[u32],
+    words: &[u32],
+    row: usize,
+    word: usize,
+    output: &mut [u8],
+    at: usize,
+) -> Ends
+    requires { ⌜ (16 * row + 16 ≤ length (now operands)) × (e.at 3 (rowAt row (now operands)) ≡ 0) × w.Few (rowAt row (now operands)) 4 × w.Lone (rowAt row (now operands)) (length (now words)) word at (length (now output)) ⌝ }
+    ensures { λ r. ⌜ w.Stood (rowAt row (now (operands .entry))) (now (words .entry)) row word at (now (output .entry)) r (now (output .exit)) ⌝ }
+{
+    let t = flat_dword(operands, 16 * row);
+    let a = words[word];
+    let b = words[word + 1];
+    let c = words[word + 2];
+    let d = words[word + 3];
+    put_dword(output, at, t);
+    put_dword(output, at + 1, a);
+    put_dword(output, at + 2, b);
+    put_dword(output, at + 3, c);
+    put_dword(output, at + 4, d);
+    Ends {
+        row: row + 1,
+        word: word + 4,
+        at: at + 5,
     }
 }
 
@@ -223,16 +305,33 @@ fn deep(
     index(operands, words, b, tokens::repr(2, t), left, output)
 }
 
-// Tells whether an operand has no operand in it and no modifiers.
-fn plain(operands: &[u32], o: usize) -> bool
+// Tells which short way there is to write an operand, by its row; 0: none.
+fn way(operands: &[u32], o: usize) -> u32
     requires { ⌜ o + 16 ≤ length (now operands) ⌝ }
-    ensures { λ r. ⌜ r ≡ (eqb (getD (now (operands .entry)) (o + 14) 0) 1 && eqb (getD (now (operands .entry)) (o + 3) 0) 0) ⌝ }
+    ensures { λ r. ⌜ w.Way (take 16 (drop o (now (operands .entry)))) r ⌝ }
 {
-    operands[o + 14] == 1 && operands[o + 3] == 0
+    let one = pair(operands[o + 6], operands[o + 7]) == 1;
+    if operands[o + 3] != 0 {
+        return if one { 3 } else { 0 };
+    }
+    if one {
+        return 1;
+    }
+    if operands[o + 7] != 0 {
+        return 0;
+    }
+    if operands[o + 6] == 2 {
+        return 2;
+    }
+    match operands[o + 15] {
+        2 => 5,
+        5 => 4,
+        _ => 0,
+    }
 }
 
-// Writes the operand that was confirmed at a row and a word, from a dword of the output on. Most have neither modifiers
-// nor an operand in them: they go a short way.
+// Writes the operand that was confirmed at a row and a word, from a dword of the output on. Most have one index of one dword,
+// or else a few words, and go a short way. The others' pools are lent afresh, which leaves those of the callers in registers.
 pub fn emit(
     operands: &[u32],
     words: &[u32],
@@ -245,10 +344,25 @@ pub fn emit(
     requires { ⌜ w.Ready (there (c.confirm left) (now operands) (now words) row word) at (length (now output)) ⌝ }
     ensures { λ r. ⌜ w.Emitted (there (c.confirm left) (now (operands .entry)) (now (words .entry)) row word) row word at (now (output .entry)) r (now (output .exit)) ⌝ }
 {
-    if plain(operands, 16 * row) {
-        return short(operands, words, row, word, output, at);
+    let way = way(operands, 16 * row);
+    if way == 1 {
+        return with_word(operands, words, row, word, output, at);
     }
-    let ends = deep(operands, words, row, word, left, output, at);
+    if way == 2 {
+        return with_two(operands, words, row, word, output, at);
+    }
+    if way == 3 {
+        return with_modifiers(operands, words, row, word, output, at);
+    }
+    if way == 4 {
+        return with_four(operands, words, row, word, output, at);
+    }
+    if way == 5 {
+        return with_word(operands, words, row, word, output, at);
+    }
+    let rows = &operands[0..operands.len()];
+    let all = &words[0..words.len()];
+    let ends = deep(rows, all, row, word, left, output, at);
     Ends {
         row: ends.row,
         word: ends.word,

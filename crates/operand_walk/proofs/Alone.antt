@@ -6,11 +6,11 @@ use mathlib.Core.List.{List, [], _∷_, _++_}
 use mathlib.Core.Option.{some as just}
 use native.Mathlib.Nat.{add-zero}
 use native.Mathlib.Omega.{arith}
-use lib.ListN.{length, getD, take, drop, length-append, length-drop}
+use lib.ListN.{length, getD, take, drop, length-append}
 use lib.Seq.{length-take-le}
 use lib.Dec.{eqb, ltb}
 use lib.Bits.{bitOr, or-add-and, and-le-l, and-le-r}
-use borrow.Author.Tests.{le-leb, eqb-true, eqb-false, eq-eqb, ne-eqb, lt-ltb, not-false}
+use borrow.Author.Tests.{le-leb, eqb-true, eqb-false, eq-eqb, ne-eqb, lt-ltb, not-true, not-false}
 use Rattle.format.specs.Dwords.{bitsFrom, bits}
 use Rattle.format.specs.Operands as op
 use Rattle.format.specs.Operands.{Tree, none, plain, node, form, selection, typeOf, dimension, reprs, repr, immediate, immediates, exactDword, exactExtension, own, nests, known, dwords}
@@ -21,9 +21,9 @@ use Rattle.format.proofs.Rows.{four-lengths}
 use Rattle.format.proofs.Encoder.{same-refl}
 use Rattle.tokens.proofs.Fields.{chosen, counted, low}
 use Rattle.operand_walk.specs.Confirm.{Confirmer, confirmIndex, confirmed, confirmImmediates, confirmIndices, confirmFront, confirm}
-use Rattle.operand_walk.specs.Walks.{walked, there, Plain, Childless, Lone}
+use Rattle.operand_walk.specs.Walks.{walked, Plain, Childless, Lone, Bare}
 use Rattle.operand_walk.specs.declared.Walked.the-variants.{Is}
-use Rattle.operand_walk.proofs.SameRows.{numbersAt, listed, rest}
+use Rattle.operand_walk.proofs.SameRows.{numbersAt, listed}
 
 -- ---- the fields of a dword without representations, whose x is 1 with an extension
 abbrev selections : ℕ → ℕ
@@ -338,7 +338,15 @@ pub plain-row : (q : List ℕ) → at 0 q ≤ 255 → {n : ℕ} → n ≡ select
 plain-row q ht en hs hv hr e = let o = or-none _ _ (eqb-true _ 0 e) in record { type = omega arith; selection = omega arith; signs = omega arith; reprs = o .0; third = o .1; rows = hr }
 
 pub other-row : (q : List ℕ) (w : ℕ) → Lone q w 0
-other-row q w = record { few = omega arith; place = λ h. impossible (omega arith); walks = λ h. impossible (omega arith) }
+other-row q w = record { few = omega arith; place = λ h. impossible (omega arith); size = λ h. impossible (omega arith); walks = λ h. impossible (omega arith) }
+
+single-lone : (q : List ℕ) (w : ℕ) → 16 ≤ length q → Plain q → Childless q → (at 0 q / 2 ≡ 2 → ⊥) → w < 2 ^ 32 → at 4 q ≡ 0 → at 5 q ≡ 0 → at 6 q ≡ 1 → at 8 q ≡ w → at 9 q ≡ 0 → at 15 q ≡ 2 + length (extensionOf (at 3 q)) → Lone q w 1
+single-lone q w h p z g hw e₄ e₅ e₆ e₈ e₉ ed = record {
+  few = omega arith;
+  place = λ l. hw;
+  size = λ l. ed;
+  walks = λ l k r ws y. ap (λ (j : ℕ). Is 1 1 j) ed ∙ single-walks (at 1 q) (at 2 q) (at 0 q) (at 3 q) (p .selection) (p .type) (p .signs) r w q h k g (row-is q h p z e₄ e₅ e₆ e₈ e₉ ed) ws y;
+}
 
 module _ (q : List ℕ) (w : ℕ) (h : 16 ≤ length q) (b : Bool) (hb : b ≡ true → Plain q) (nb : not b ≡ false) (x : ℕ) (z : x ≡ 0 → Childless q) where
   p : Plain q
@@ -354,6 +362,7 @@ module _ (q : List ℕ) (w : ℕ) (h : 16 ≤ length q) (b : Bool) (hb : b ≡ t
       record {
         few = omega (arith, few-counted (at 1 q));
         place = λ l. omega arith;
+        size = λ l. omega arith;
         walks = λ l k r ws y₁. ap (λ (j : ℕ). Is 1 n j) ed ∙ leaf-walks (at 1 q) (at 2 q) (at 0 q) (at 3 q) (p .selection) (p .type) (p .signs) r w q h k g n (en ∙ em) l e ws y₁;
       }
 
@@ -362,13 +371,7 @@ module _ (q : List ℕ) (w : ℕ) (h : 16 ≤ length q) (b : Bool) (hb : b ≡ t
       let o₁ = or-none _ _ o in
       let o₂ = or-none _ _ (o₁ .0) in
       let o₃ = or-none _ _ (o₂ .0) in
-      let ed : at 15 q ≡ 2 + length (extensionOf (at 3 q)) = e₁₅ ∙ ap (λ (j : ℕ). 2 + j) ey in
-      let e = row-is q h p (z (o₃ .0)) (o₃ .1) (o₂ .1) e₆ (sym eu ∙ ew) (o₁ .1) ed in
-      record {
-        few = omega arith;
-        place = λ l. omega arith;
-        walks = λ l k r ws y₁. ap (λ (j : ℕ). Is 1 1 j) ed ∙ single-walks (at 1 q) (at 2 q) (at 0 q) (at 3 q) (p .selection) (p .type) (p .signs) r w q h k g e ws y₁;
-      }
+      single-lone q w h p (z (o₃ .0)) g (omega arith) (o₃ .1) (o₂ .1) e₆ (sym eu ∙ ew) (o₁ .1) (e₁₅ ∙ ap (λ (j : ℕ). 2 + j) ey)
 
   pub lone-double : (at 0 q / 2 ≡ 2 → ⊥) → at 6 q ≡ 2 → bitOr (bitOr x (at 4 q)) (at 5 q) ≡ 0 → {u : ℕ} → u ≡ at 8 q → u < 2 ^ 32 → u ≡ w → {v : ℕ} → v ≡ at 9 q → v ≡ w + 1 → {y : ℕ} → y ≡ length (extensionOf (at 3 q)) → at 15 q ≡ 3 + y → Lone q w 2
   lone-double g e₆ o {u} eu su ew ev ew₁ ey e₁₅ =
@@ -379,10 +382,40 @@ module _ (q : List ℕ) (w : ℕ) (h : 16 ≤ length q) (b : Bool) (hb : b ≡ t
       record {
         few = omega arith;
         place = λ l. omega arith;
+        size = λ l. ed;
         walks = λ l k r ws y₁. ap (λ (j : ℕ). Is 1 2 j) ed ∙ double-walks (at 1 q) (at 2 q) (at 0 q) (at 3 q) (p .selection) (p .type) (p .signs) r w q h k g e ws y₁;
       }
 
--- an operand that stands alone at row r and word w of two pools
-pub lone-walks : (left : ℕ) (rs ws : List ℕ) (r w n : ℕ) → (left ≡ 0 → ⊥) → Lone (take (length rs - 16 * r) (drop (16 * r) rs)) w n → (n ≡ 0 → ⊥) → w + n ≤ length ws → {d : ℕ} → d ≡ at 15 (take (length rs - 16 * r) (drop (16 * r) rs)) → Is 1 n d ≡ walked (there (confirm left) rs ws r w)
-lone-walks zero rs ws r w n h l g b ed = absurd (h refl)
-lone-walks (suc k) rs ws r w n h l g b ed = ap (λ (j : ℕ). Is 1 n j) ed ∙ l .walks (omega arith) k r (drop w ws) (omega (arith, length-drop w ws)) ∙ ap (λ (q : List ℕ). walked (confirm (suc k) q (drop w ws) r w)) (rest rs (16 * r))
+-- ---- what the code asks of a row whose numbers it compares two by two
+-- two numbers are told by their sum, if the lower is a dword
+two : (a b c d : ℕ) → a < 2 ^ 32 → c < 2 ^ 32 → a + b * 2 ^ 32 ≡ c + d * 2 ^ 32 → (a ≡ c) × (b ≡ d)
+two a b c d ha hc e = (omega arith, omega arith)
+
+pub apart : (a b c d : ℕ) {x : ℕ} → x ≡ a + b * 2 ^ 32 → a < 2 ^ 32 → c < 2 ^ 32 → x ≡ c + d * 2 ^ 32 → (a ≡ c) × (b ≡ d)
+apart a b c d ex ha hc e = two a b c d ha hc (sym ex ∙ e)
+
+few-selections : (f : ℕ) → selections f ≤ 256
+few-selections zero = omega arith
+few-selections (suc zero) = omega arith
+few-selections (suc (suc zero)) = omega arith
+few-selections (suc (suc (suc zero))) = omega arith
+few-selections (suc (suc (suc (suc zero)))) = omega arith
+few-selections (suc (suc (suc (suc (suc f))))) = omega arith
+
+pub unmodified : (q : List ℕ) {n s x : ℕ} → s ≡ selections (at 1 q) → n ≡ s → x ≡ at 2 q + at 3 q * 2 ^ 32 → x < n → (at 2 q < selections (at 1 q)) × (at 3 q ≡ 0)
+unmodified q es en ex h = (omega arith, omega (arith, few-selections (at 1 q)))
+
+pub at-word : (a b w : ℕ) {x y : ℕ} → x ≡ a + b * 2 ^ 32 → a < 2 ^ 32 → w < 2 ^ 32 → y ≡ w → x ≡ y → (a ≡ w) × (b ≡ 0)
+at-word a b w ex ha hw ey e = apart a b w 0 ex ha hw (omega arith)
+
+pub unlike : (a b : ℕ) → not (eqb a b) ≡ true → a ≡ b → ⊥
+unlike a b e = eqb-false a b (not-true (eqb a b) e)
+
+pub bare-row : (q : List ℕ) (w : ℕ) → 16 ≤ length q → w < 2 ^ 32 →
+    (at 14 q ≡ 1) × (at 15 q ≡ 2) → (at 6 q ≡ 1) × (at 7 q ≡ 0) → at 0 q ≤ 255 → (at 2 q < selections (at 1 q)) × (at 3 q ≡ 0) → (at 4 q ≡ 0) × (at 5 q ≡ 0) → (at 8 q ≡ w) × (at 9 q ≡ 0) → (at 10 q ≡ 0) × (at 11 q ≡ 0) → (at 12 q ≡ 0) × (at 13 q ≡ 0) →
+    (at 0 q / 2 ≡ 2 → ⊥) → Bare q w
+bare-row q w h hw (e₁₄, e₁₅) (e₆, e₇) h₀ (h₂, e₃) (e₄, e₅) (e₈, e₉) (e₁₀, e₁₁) (e₁₂, e₁₃) g =
+    let p : Plain q = record { type = omega arith; selection = h₂; signs = omega arith; reprs = e₇; third = e₁₀; rows = e₁₄ } in
+    let z : Childless q = record { first = e₁₁; second = e₁₂; last = e₁₃ } in
+    let ed : at 15 q ≡ 2 + length (extensionOf (at 3 q)) = e₁₅ ∙ ap (λ (j : ℕ). 2 + j) (no-signs (at 3 q) e₃) in
+    record { lone = single-lone q w h p z g hw e₄ e₅ e₆ e₈ e₉ ed; dwords-are = e₁₅ }

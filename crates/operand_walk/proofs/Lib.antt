@@ -9,3 +9,4 @@ pub mod SameRows
 pub mod Found
 pub mod Walks
 pub mod Alone
+pub mod Runs

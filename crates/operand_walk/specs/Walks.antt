@@ -1,5 +1,5 @@
 -- What walking over rows and words answers.
-use Prim.Native.Nat.{ℕ, suc, _+_, _*_, _^_, _<_, _≤_}
+use Prim.Native.Nat.{ℕ, suc, _+_, _-_, _*_, _^_, _<_, _≤_}
 use mathlib.Core.Path.{_≡_}
 use mathlib.Core.Bool.{cond, _&&_}
 use mathlib.Core.List.{List, [], _∷_}
@@ -8,7 +8,7 @@ use lib.ListN.{length, getD, take, drop}
 use lib.Dec.{eqb, ltb}
 use Rattle.format.specs.Operands.{Tree, typeOf, form, selection, dimension, reprs, repr, dwords, exactDword, exactExtension}
 use Rattle.format.specs.Rows.{placed, wordPlace, childRow, treeRows, treeWords}
-use Rattle.format.specs.Encoder.{at}
+use Rattle.format.specs.Encoder.{at, extensionOf}
 use Rattle.operand_walk.specs.Confirm.{Confirmer, confirm}
 use Rattle.operand_walk.specs.declared.Place.{Place}
 use Rattle.operand_walk.specs.declared.Walked.{Walked}
@@ -73,4 +73,23 @@ pub record Childless (q : List ℕ) : Type 0 where
 pub record Lone (q : List ℕ) (w n : ℕ) : Type 0 where
   pub few : n ≤ 4
   pub place : 0 < n → w < 2 ^ 32
+  pub size : 0 < n → at 15 q ≡ 1 + n + length (extensionOf (at 3 q))
   pub walks : 0 < n → (k r : ℕ) (ws : List ℕ) → n ≤ length ws → Is 1 n (at 15 q) ≡ walked (confirm (suc k) q ws r w)
+
+-- a word, which stands at w, and no extension
+pub record Bare (q : List ℕ) (w : ℕ) : Type 0 where
+  pub lone : Lone q w 1
+  pub dwords-are : at 15 q ≡ 2
+
+-- k operands, each in a row of its own, one after the other from row r and word w of two pools on: the word behind them, and their dwords
+pub data Run (left : ℕ) (rs ws : List ℕ) (r w : ℕ) : ℕ → ℕ → ℕ → Type 0 where
+  empty : Run left rs ws r w 0 w 0
+  next : {k v n a : ℕ} → Run left rs ws r w k v n → Is 1 a (at 15 (drop (16 * (r + k)) rs)) ≡ walked (there (confirm left) rs ws (r + k) v) → Run left rs ws r w (k + 1) (v + a) (n + at 15 (drop (16 * (r + k)) rs))
+
+-- k operands, of which x have an extension, in all words that end at `end`
+pub record Ran (rs : List ℕ) (r w k end x : ℕ) : Type 0 where
+  pub past : ℕ
+  pub words-from : w ≤ past
+  pub words-to : past ≤ end
+  pub few : x ≤ k
+  pub runs : (left : ℕ) (ws : List ℕ) → length ws ≡ end → Run (suc left) rs ws r w k past (k + (past - w) + x)

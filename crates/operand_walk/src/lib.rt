@@ -478,6 +478,84 @@ fn lone(q: &[u32], word: usize) -> usize
     double_words(q, word)
 }
 
+// Joins two neighbours, so that they are compared at once.
+pub fn pair(a: u32, b: u32) -> u64
+    ensures { λ r. ⌜ r ≡ a + b * 2 ^ 32 ⌝ }
+    ensures low { λ r. ⌜ a < 2 ^ 32 ⌝ }
+{
+    long(a) + long(b) * 0x1_0000_0000
+}
+
+// Widens a size, so that it is compared with two neighbours.
+fn far(x: usize) -> u64
+    ensures { λ r. ⌜ r ≡ x ⌝ }
+{
+    x as u64
+}
+
+// Tells whether a row of its own has an index of one dword at a word, no modifiers and no immediates. The two tests of the
+// type stand apart, because side by side they become slower code.
+fn bare(q: &[u32], word: usize) -> bool
+    requires { ⌜ (16 ≤ length (now q)) × (word < 2 ^ 32) ⌝ }
+    ensures { λ r. ⌜ (r ≡ true → w.Bare (now (q .entry)) word) ⌝ }
+{
+    if pair(q[14], q[15]) != 0x2_0000_0001 {
+        return false;
+    }
+    if pair(q[6], q[7]) != 1 {
+        return false;
+    }
+    if 255 < q[0] {
+        return false;
+    }
+    if long(selections(q[1])) <= pair(q[2], q[3]) {
+        return false;
+    }
+    if pair(q[4], q[5]) != 0 {
+        return false;
+    }
+    if pair(q[8], q[9]) != far(word) {
+        return false;
+    }
+    if pair(q[10], q[11]) != 0 {
+        return false;
+    }
+    if pair(q[12], q[13]) != 0 {
+        return false;
+    }
+    q[0] / 2 != 2
+}
+
+// Walks so many operands that stand alone, one after the other, whose words are before an end: 1 and the number of their
+// extensions. 0 says nothing.
+pub fn run(operands: &[u32], row: usize, word: usize, count: usize, end: usize) -> usize
+    requires { ⌜ (count ≤ length (now operands) / 16 - row) × (count ≤ 16) ⌝ }
+    ensures { λ n. ⌜ (0 < n → w.Ran (now (operands .entry)) row word count end (n - 1)) ⌝ }
+{
+    // Two neighbours in a row could make a larger word.
+    if 0x7FFF_FFFF < word {
+        return 0;
+    }
+    let mut w = word;
+    let mut more = 1;
+    let mut i = 0;
+    while i < count {
+        let q = &operands[16 * (row + i)..];
+        if bare(q, w) {
+            w += 1;
+        } else {
+            let n = lone(q, w);
+            if n == 0 {
+                return 0;
+            }
+            w += n;
+            more += wide(extended(q[3]));
+        }
+        i += 1;
+    }
+    if end < w { 0 } else { more }
+}
+
 // Walks the operand at a row, with its words from a word on and so many depths left: 64 at depth 0. Most stand alone and
 // go a short way.
 pub fn walk(operands: &[u32], words: &[u32], row: usize, word: usize, left: usize) -> Walked
@@ -489,17 +567,14 @@ pub fn walk(operands: &[u32], words: &[u32], row: usize, word: usize, left: usiz
     if operands.len() / 16 <= row {
         return Walked::Not;
     }
-    let q = &operands[16 * row..];
-    let n = lone(q, word);
+    let n = run(operands, row, word, 1, words.len());
     if n == 0 {
         return deep(operands, words, row, word, left);
     }
-    if words.len() < word + n {
-        return deep(operands, words, row, word, left);
-    }
+    let dwords = wide(operands[16 * row + 15]);
     Walked::Is {
         rows: 1,
-        words: n,
-        dwords: wide(q[15]),
+        words: dwords - n,
+        dwords,
     }
 }

@@ -1,113 +1,197 @@
-use Rattle.instruction_walk.proofs.Short.{some-test, some-field, large-saturate, large-precise, many-dwords, code-190, plain-decides}
+use mathlib.Core.Logic.{⊎-elim}
+use lib.Dec.{lit<}
+use borrow.Author.Tests.{not-false}
+use Rattle.operand_walk.proofs.Alone.{apart}
+use Rattle.instruction_walk.proofs.Short.{other, untested, below, unlike, plain-row}
 use borrow.Author.Needs.{needs}
 use Rattle.instruction_walk.proofs.plain.Statement.{statement}
 use Rattle.instruction_walk.proofs.plain.Tie as tie
 
-add-if1 : tie.Need-add-if1
-add-if1 c = search needs
+add-pair : tie.Need-add-pair
+add-pair c = search needs
 
-mul-if1 : tie.Need-mul-if1
-mul-if1 c = search needs
+mul-pair : tie.Need-mul-pair
+mul-pair c = search needs
 
-shared-slice-read-if1 : tie.Need-shared-slice-read-if1
-shared-slice-read-if1 c = search needs
+shared-slice-read-pair : tie.Need-shared-slice-read-pair
+shared-slice-read-pair c = search needs
+
+add-pair-2 : tie.Need-add-pair-2
+add-pair-2 c = search needs
+
+mul-pair-2 : tie.Need-mul-pair-2
+mul-pair-2 c = search needs
+
+shared-slice-read-pair-2 : tie.Need-shared-slice-read-pair-2
+shared-slice-read-pair-2 c = search needs
+
+pair-requires : tie.Need-pair-requires
+pair-requires c κs = search needs
+
+add-tested : tie.Need-add-tested
+add-tested c = search needs
+
+mul-tested : tie.Need-mul-tested
+mul-tested c = search needs
+
+shared-slice-read-tested : tie.Need-shared-slice-read-tested
+shared-slice-read-tested c = search needs
+
+add-tested-2 : tie.Need-add-tested-2
+add-tested-2 c = search needs
+
+mul-tested-2 : tie.Need-mul-tested-2
+mul-tested-2 c = search needs
+
+shared-slice-read-tested-2 : tie.Need-shared-slice-read-tested-2
+shared-slice-read-tested-2 c = search needs
+
+add-tested-3 : tie.Need-add-tested-3
+add-tested-3 c = search needs
+
+mul-tested-3 : tie.Need-mul-tested-3
+mul-tested-3 c = search needs
+
+shared-slice-read-tested-3 : tie.Need-shared-slice-read-tested-3
+shared-slice-read-tested-3 c = search needs
+
+tested-requires : tie.Need-tested-requires
+tested-requires c κs = search needs
 
 returns : tie.Need-returns
-returns c = some-test (c .before .before .before .args .instructions .now) (c .before .before .before .args .first) (c .if1 .taken)
+returns c = other
 
-add-if2 : tie.Need-add-if2
-add-if2 c = search needs
+add-pair-3 : tie.Need-add-pair-3
+add-pair-3 c = search needs
 
-mul-if2 : tie.Need-mul-if2
-mul-if2 c = search needs
+mul-pair-3 : tie.Need-mul-pair-3
+mul-pair-3 c = search needs
 
-shared-slice-read-if2 : tie.Need-shared-slice-read-if2
-shared-slice-read-if2 c = search needs
+shared-slice-read-pair-3 : tie.Need-shared-slice-read-pair-3
+shared-slice-read-pair-3 c = search needs
+
+add-pair-4 : tie.Need-add-pair-4
+add-pair-4 c = search needs
+
+mul-pair-4 : tie.Need-mul-pair-4
+mul-pair-4 c = search needs
+
+shared-slice-read-pair-4 : tie.Need-shared-slice-read-pair-4
+shared-slice-read-pair-4 c = search needs
+
+pair-requires-2 : tie.Need-pair-requires-2
+pair-requires-2 c κs = search needs
 
 returns-2 : tie.Need-returns-2
-returns-2 c = some-field (c .before .before .before .before .before .args .instructions .now) (c .before .before .before .before .before .args .first) (c .if2 .taken)
+returns-2 c = other
 
-add-if3 : tie.Need-add-if3
-add-if3 c = search needs
+add-pair-5 : tie.Need-add-pair-5
+add-pair-5 c = search needs
 
-mul-if3 : tie.Need-mul-if3
-mul-if3 c = search needs
+mul-pair-5 : tie.Need-mul-pair-5
+mul-pair-5 c = search needs
 
-shared-slice-read-if3 : tie.Need-shared-slice-read-if3
-shared-slice-read-if3 c = search needs
+shared-slice-read-pair-5 : tie.Need-shared-slice-read-pair-5
+shared-slice-read-pair-5 c = search needs
+
+add-pair-6 : tie.Need-add-pair-6
+add-pair-6 c = search needs
+
+mul-pair-6 : tie.Need-mul-pair-6
+mul-pair-6 c = search needs
+
+shared-slice-read-pair-6 : tie.Need-shared-slice-read-pair-6
+shared-slice-read-pair-6 c = search needs
+
+pair-requires-3 : tie.Need-pair-requires-3
+pair-requires-3 c κs = search needs
 
 returns-3 : tie.Need-returns-3
-returns-3 c = large-saturate (c .before .before .before .before .before .before .before .args .instructions .now) (c .before .before .before .before .before .before .before .args .first) (c .if3 .taken)
+returns-3 c = other
 
-add-if4 : tie.Need-add-if4
-add-if4 c = search needs
+add-pair-7 : tie.Need-add-pair-7
+add-pair-7 c = search needs
 
-mul-if4 : tie.Need-mul-if4
-mul-if4 c = search needs
+mul-pair-7 : tie.Need-mul-pair-7
+mul-pair-7 c = search needs
 
-shared-slice-read-if4 : tie.Need-shared-slice-read-if4
-shared-slice-read-if4 c = search needs
+shared-slice-read-pair-7 : tie.Need-shared-slice-read-pair-7
+shared-slice-read-pair-7 c = search needs
+
+add-pair-8 : tie.Need-add-pair-8
+add-pair-8 c = search needs
+
+mul-pair-8 : tie.Need-mul-pair-8
+mul-pair-8 c = search needs
+
+shared-slice-read-pair-8 : tie.Need-shared-slice-read-pair-8
+shared-slice-read-pair-8 c = search needs
+
+pair-requires-4 : tie.Need-pair-requires-4
+pair-requires-4 c κs = search needs
 
 returns-4 : tie.Need-returns-4
-returns-4 c = large-precise (c .before .before .before .before .before .before .before .before .before .args .instructions .now) (c .before .before .before .before .before .before .before .before .before .args .first) (c .if4 .taken)
+returns-4 c = other
 
-add-if5 : tie.Need-add-if5
-add-if5 c = search needs
+add-result : tie.Need-add-result
+add-result c = search needs
 
-mul-if5 : tie.Need-mul-if5
-mul-if5 c = search needs
+mul-result : tie.Need-mul-result
+mul-result c = search needs
 
-shared-slice-read-if5 : tie.Need-shared-slice-read-if5
-shared-slice-read-if5 c = search needs
+shared-slice-read-result : tie.Need-shared-slice-read-result
+shared-slice-read-result c = search needs
 
 returns-5 : tie.Need-returns-5
-returns-5 c = many-dwords (c .before .before .before .before .before .before .before .before .before .before .before .args .instructions .now) (c .before .before .before .before .before .before .before .before .before .before .before .args .first) (c .if5 .taken)
-
-add-if6 : tie.Need-add-if6
-add-if6 c = search needs
-
-mul-if6 : tie.Need-mul-if6
-mul-if6 c = search needs
-
-shared-slice-read-if6 : tie.Need-shared-slice-read-if6
-shared-slice-read-if6 c = search needs
-
-returns-6 : tie.Need-returns-6
-returns-6 c = code-190 (c .before .before .before .before .before .before .before .before .before .before .before .before .before .args .instructions .now) (c .before .before .before .before .before .before .before .before .before .before .before .before .before .args .first) (c .if6 .taken)
-
-unchained-requires : tie.Need-unchained-requires
-unchained-requires c κs = search needs
-
-returns-7 : tie.Need-returns-7
-returns-7 c = plain-decides (c .before .before .before .before .before .before .before .before .before .before .before .before .before .before .args .instructions .now) (c .before .before .before .before .before .before .before .before .before .before .before .before .before .before .args .first) (c .before .before .before .before .before .before .before .before .before .before .before .if1 .left) (c .before .before .before .before .before .before .before .before .before .if2 .left) (c .before .before .before .before .before .before .before .if3 .left) (c .before .before .before .before .before .if4 .left) (c .before .before .before .if5 .left) (c .before .if6 .left) (c .unchained .ensures)
+returns-5 c = λ e. plain-row (c .before .before .before .before .before .before .before .before .before .before .before .before .before .before .before .before .before .before .args .instructions .now) (c .before .before .before .before .before .before .before .before .before .before .before .before .before .before .before .before .before .before .args .first) (⊎-elim (λ z. z .4 .ensures (not-false _ (z .5 .left))) (λ z. untested _ (c .before .before .before .before .before .before .before .before .before .before .before .before .before .before .pair .ensures .0) (z .left)) (c .before .before .before .before .before .before .before .before .before .before .before .before .before .if1 .came)) (below _ _ 16 (c .before .before .before .before .before .before .before .before .before .before .pair2 .ensures .0) (lit< tt) (c .before .before .before .before .before .before .before .before .before .if3 .left)) (apart _ _ 0 0 (c .before .before .before .before .before .before .pair3 .ensures .0) (c .before .before .before .before .before .before .pair3 .ensures .1) (lit< tt) (c .before .before .before .before .before .if4 .left)) (apart _ _ 0 0 (c .before .before .pair4 .ensures .0) (c .before .before .pair4 .ensures .1) (lit< tt) (c .before .if5 .left)) (unlike _ _ e)
 
 pub plain-spec : {M : Type 1} → statement M
 plain-spec =
     tie.close
     (tie.spec
-    add-if1
-    mul-if1
-    shared-slice-read-if1
+    add-pair
+    mul-pair
+    shared-slice-read-pair
+    add-pair-2
+    mul-pair-2
+    shared-slice-read-pair-2
+    pair-requires
+    add-tested
+    mul-tested
+    shared-slice-read-tested
+    add-tested-2
+    mul-tested-2
+    shared-slice-read-tested-2
+    add-tested-3
+    mul-tested-3
+    shared-slice-read-tested-3
+    tested-requires
     returns
-    add-if2
-    mul-if2
-    shared-slice-read-if2
+    add-pair-3
+    mul-pair-3
+    shared-slice-read-pair-3
+    add-pair-4
+    mul-pair-4
+    shared-slice-read-pair-4
+    pair-requires-2
     returns-2
-    add-if3
-    mul-if3
-    shared-slice-read-if3
+    add-pair-5
+    mul-pair-5
+    shared-slice-read-pair-5
+    add-pair-6
+    mul-pair-6
+    shared-slice-read-pair-6
+    pair-requires-3
     returns-3
-    add-if4
-    mul-if4
-    shared-slice-read-if4
+    add-pair-7
+    mul-pair-7
+    shared-slice-read-pair-7
+    add-pair-8
+    mul-pair-8
+    shared-slice-read-pair-8
+    pair-requires-4
     returns-4
-    add-if5
-    mul-if5
-    shared-slice-read-if5
-    returns-5
-    add-if6
-    mul-if6
-    shared-slice-read-if6
-    returns-6
-    unchained-requires
-    returns-7)
+    add-result
+    mul-result
+    shared-slice-read-result
+    returns-5)

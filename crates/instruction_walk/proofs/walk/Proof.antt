@@ -1,7 +1,6 @@
 use native.Mathlib.Omega.{arith}
 use Rattle.layouts.proofs.Others.{is-counted}
-use Rattle.instruction_walk.proofs.Deciding.{granted}
-use Rattle.instruction_walk.proofs.Short.{plain-code}
+use Rattle.instruction_walk.proofs.Short.{counted-row, quickly}
 use Rattle.instruction_walk.proofs.Ways.{by-unread, by-known}
 use borrow.Author.Needs.{needs}
 use Rattle.instruction_walk.proofs.walk.Statement.{statement}
@@ -25,14 +24,14 @@ returns c = by-unread (c .before .before .before .before .before .before .args .
 operand-count-requires : tie.Need-operand-count-requires
 operand-count-requires c κs = search needs
 
-plain-requires : tie.Need-plain-requires
-plain-requires c κs = search needs
+quick-requires : tie.Need-quick-requires
+quick-requires c κs = (c .before .before .before .before .before .before .before .pre .0, c .before .before .before .before .before .before .before .pre .1, c .if2 .taken, counted-row (c .before .before .before .before .before .before .before .args .instructions .now) (c .before .before .before .before .before .before .before .args .at) _ (is-counted _ _ (c .before .operand-count .ensures) (c .if2 .taken)) (omega (arith, c .before .before .if1 .left, c .before .before .before .before .before .before .before .pre .2)))
 
-counted-plain-requires : tie.Need-counted-plain-requires
-counted-plain-requires c κs = (c .before .before .before .before .before .before .before .before .before .pre .0, c .before .before .before .before .before .before .before .before .before .pre .1, plain-code (c .before .before .before .before .before .before .before .before .before .args .instructions .now) (c .before .before .before .before .before .before .before .before .before .args .at) _ (is-counted _ _ (c .before .before .before .operand-count .ensures) (c .before .before .if2 .taken)) (omega (arith, c .before .before .before .before .if1 .left, c .before .before .before .before .before .before .before .before .before .pre .2)) (granted (c .before .plain .ensures) (c .if3 .taken)))
+wide-requires : tie.Need-wide-requires
+wide-requires c κs = search needs
 
 returns-2 : tie.Need-returns-2
-returns-2 c = by-known (c .before .before .before .before .before .before .before .before .before .before .args .instructions .now) (c .before .before .before .before .before .before .before .before .before .before .args .at) (c .before .before .before .before .before .before .before .before .before .before .args .place) (c .before .before .before .before .before .before .before .before .before .before .args .ceiling) (c .before .before .before .before .before .before .before .before .before .before .args .model51) (c .before .before .before .before .before .before .before .before .before .before .args .operands .now) (c .before .before .before .before .before .before .before .before .before .before .args .words .now) (c .before .before .before .before .before .before .before .before .before .before .args .row) (c .before .before .before .before .before .before .before .before .before .before .args .word) (c .before .before .before .before .before .if1 .left) (c .counted-plain .ensures _)
+returns-2 c = by-known (c .before .before .before .before .before .before .before .before .before .before .args .instructions .now) (c .before .before .before .before .before .before .before .before .before .before .args .at) (c .before .before .before .before .before .before .before .before .before .before .args .place) (c .before .before .before .before .before .before .before .before .before .before .args .ceiling) (c .before .before .before .before .before .before .before .before .before .before .args .model51) (c .before .before .before .before .before .before .before .before .before .before .args .operands .now) (c .before .before .before .before .before .before .before .before .before .before .args .words .now) (c .before .before .before .before .before .before .before .before .before .before .args .row) (c .before .before .before .before .before .before .before .before .before .before .args .word) (c .before .before .before .before .before .if1 .left) (quickly (c .wide .ensures) (c .before .if3 .taken) (c .before .before .quick .ensures) _)
 
 known-requires : tie.Need-known-requires
 known-requires c κs = search needs
@@ -50,8 +49,8 @@ walk-spec =
     unread-requires
     returns
     operand-count-requires
-    plain-requires
-    counted-plain-requires
+    quick-requires
+    wide-requires
     returns-2
     known-requires
     returns-3)

@@ -1,0 +1,112 @@
+-- Operands that stand alone, one after the other.
+use Prim.Native.Nat.{ℕ, zero, suc, _+_, _-_, _*_, _<_, _≤_}
+use mathlib.Core.Path.{_≡_, refl, sym, ap, _∙_, subst}
+use mathlib.Core.List.{List}
+use native.Mathlib.Omega.{arith}
+use lib.ListN.{length, getD, take, drop, length-drop}
+use lib.Seq.{getD-drop}
+use Rattle.format.specs.Encoder.{at, extensionOf}
+use Rattle.format.proofs.Dwords.{impossible}
+use Rattle.operand_walk.specs.Confirm.{confirm}
+use Rattle.operand_walk.specs.Walks.{walked, there, Lone, Bare, Run, empty, next, Ran}
+use Rattle.operand_walk.specs.declared.Walked.the-variants.{Is}
+use Rattle.operand_walk.proofs.SameRows.{rest}
+
+-- the row in front, as the code takes it from a pool
+abbrev rowsFrom : ℕ → List ℕ → List ℕ
+rowsFrom i l = take (length l - i) (drop i l)
+
+-- ---- i of k operands have been walked, up to the word v; m is 1 and the number of their extensions
+pub record Running (rs : List ℕ) (r w k i v m : ℕ) : Type 0 where
+  pub some : i ≤ k
+  pub words-from : w ≤ v
+  pub words-to : v ≤ w + 4 * i
+  pub counted : 1 ≤ m
+  pub few : m ≤ 1 + i
+  pub runs : (left : ℕ) (ws : List ℕ) → v ≤ length ws → Run (suc left) rs ws r w i v (i + (v - w) + (m - 1))
+
+pub begin : (rs : List ℕ) (r w k : ℕ) → Running rs r w k 0 w 1
+begin rs r w k =
+    let z : 0 ≡ 0 + (w - w) + (1 - 1) = omega arith in
+    record {
+      some = omega arith;
+      words-from = omega arith;
+      words-to = omega arith;
+      counted = omega arith;
+      few = omega arith;
+      runs = λ left ws h. subst (Run (suc left) rs ws r w 0 w) z empty;
+    }
+
+more : (i v w m n y : ℕ) → w ≤ v → 1 ≤ m → i + (v - w) + (m - 1) + (1 + n + y) ≡ i + 1 + (v + n - w) + (m + y - 1)
+more i v w m n y h k = omega arith
+
+module _ {rs : List ℕ} {r w k i v m : ℕ} (g : Running rs r w k i v m) where
+  module _ (h : i < k) where
+    goes-on : {n y : ℕ} → Lone (rowsFrom (16 * (r + i)) rs) v n → 0 < n → at 15 (rowsFrom (16 * (r + i)) rs) ≡ 1 + n + y → y ≤ 1 → Running rs r w k (i + 1) (v + n) (m + y)
+    goes-on {n} {y} l p e f =
+        let q : rowsFrom (16 * (r + i)) rs ≡ drop (16 * (r + i)) rs = rest rs (16 * (r + i)) in
+        let d : at 15 (drop (16 * (r + i)) rs) ≡ 1 + n + y = rw q at e in
+        record {
+          some = omega arith;
+          words-from = omega (arith, g .words-from);
+          words-to = omega (arith, g .words-to, l .few);
+          counted = omega (arith, g .counted);
+          few = omega (arith, g .few);
+          runs = λ left ws b.
+              let s : Lone (drop (16 * (r + i)) rs) v n = rw q at l in
+              let b₁ : v ≤ length ws = omega arith in
+              let b₂ : n ≤ length (drop v ws) = omega (arith, length-drop v ws) in
+              let t = next (g .runs left ws b₁) (s .walks p left (r + i) (drop v ws) b₂) in
+              subst (Run (suc left) rs ws r w (i + 1) (v + n)) (ap (λ (j : ℕ). i + (v - w) + (m - 1) + j) d ∙ more i v w m n y (g .words-from) (g .counted)) t;
+        }
+
+    pub bare-goes-on : Bare (rowsFrom (16 * (r + i)) rs) v → Running rs r w k (i + 1) (v + 1) m
+    bare-goes-on b =
+        let z : m + 0 ≡ m = omega arith in
+        subst (Running rs r w k (i + 1) (v + 1)) z (goes-on (b .lone) (omega arith) (b .dwords-are) (omega arith))
+
+    pub lone-goes-on : {n y : ℕ} → Lone (rowsFrom (16 * (r + i)) rs) v n → (n ≡ 0 → ⊥) → y ≡ length (extensionOf (at 3 (rowsFrom (16 * (r + i)) rs))) → y < 2 → Running rs r w k (i + 1) (v + n) (m + y)
+    lone-goes-on {n} {y} l p e f = let p₁ : 0 < n = omega (arith, p) in goes-on l p₁ (l .size p₁ ∙ ap (λ (j : ℕ). 1 + n + j) (sym e)) (omega arith)
+
+  pub finished : k ≤ i → (end : ℕ) → v ≤ end → 0 < m → Ran rs r w k end (m - 1)
+  finished h end b p =
+      let z : i ≡ k = omega (arith, g .some) in
+      record {
+        past = v;
+        words-from = g .words-from;
+        words-to = b;
+        few = omega (arith, g .few);
+        runs = λ left ws e.
+            let b₁ : v ≤ length ws = omega arith in
+            subst (λ (j : ℕ). Run (suc left) rs ws r w j v (j + (v - w) + (m - 1))) z (g .runs left ws b₁);
+      }
+
+-- nothing is said
+pub unsaid : {A : Type 0} → 0 < 0 → A
+unsaid h = impossible (omega arith)
+
+-- ---- one operand
+record First (left : ℕ) (rs ws : List ℕ) (r w v n : ℕ) : Type 0 where
+  words : ℕ
+  words-are : v ≡ w + words
+  dwords-are : n ≡ at 15 (drop (16 * r) rs)
+  is : Is 1 words (at 15 (drop (16 * r) rs)) ≡ walked (there (confirm left) rs ws r w)
+
+first : {left : ℕ} {rs ws : List ℕ} {r w k v n : ℕ} → Run left rs ws r w k v n → k ≡ 1 → First left rs ws r w v n
+first empty e = impossible (omega arith)
+first {rs = rs} {r = r} {w = w} (next {a = a} empty e₁) e =
+    let z : r + 0 ≡ r = omega arith in
+    let y : 0 + at 15 (drop (16 * r) rs) ≡ at 15 (drop (16 * r) rs) = omega arith in
+    record { words = a; words-are = refl; dwords-are = rw z y; is = rw z at e₁ }
+first (next (next t e₂) e₁) e = impossible (omega arith)
+
+pub one-walks : (left : ℕ) (rs ws : List ℕ) (r w n : ℕ) → (left ≡ 0 → ⊥) → (n ≡ 0 → ⊥) → (0 < n → Ran rs r w 1 (length ws) (n - 1)) → {d : ℕ} → d ≡ getD rs (16 * r + 15) 0 → (n ≤ d) × (Is 1 (d - n) d ≡ walked (there (confirm left) rs ws r w))
+one-walks zero rs ws r w n h g t ed = absurd (h refl)
+one-walks (suc k) rs ws r w n h g t {d} ed =
+    let p : 0 < n = omega (arith, g) in
+    let a = t p in
+    let f = first (a .runs k ws refl) refl in
+    let e : d ≡ at 15 (drop (16 * r) rs) = ed ∙ sym (getD-drop (16 * r) rs 15 0) in
+    let z : d ≡ f .words + n = omega (arith, e, f .dwords-are, f .words-are, a .words-from, p) in
+    let y : d - n ≡ f .words = omega arith in
+    (omega arith, (λ j. Is 1 (y j) (e j)) ∙ f .is)
