@@ -1,5 +1,6 @@
-"""Writes a chunk that looks like shipped shaders: shaders.py DWORDS FILE. Moves, multiply-adds, samples, branches and declarations, some
-7.7 dwords and 2.5 operands an instruction; the same for the same number of dwords."""
+"""Writes a chunk that looks like shipped shaders: shaders.py DWORDS FILE. Of 33 instructions 23 are moves, multiply-adds, samples and
+declarations; the others are products, sums, a branch and a return. On average an instruction has the 7.7 dwords and 2.5 operands of shipped
+shaders. The chunk is the same for the same number of dwords."""
 import random
 import struct
 import sys
@@ -21,15 +22,15 @@ def source():
     register = REGISTER | random.choice([0, 0, 0x1000])
     if kind < 0.07:  # negated or absolute
         return [0x80000006 | register | swizzle(), random.choice([0x41, 0x81]), random.randrange(16)]
-    if kind < 0.28:
-        return [CONSTANT_BUFFER | swizzle(), random.randrange(4), random.randrange(64)]
-    if kind < 0.38:
-        return [FOUR] + [random.randrange(1 << 32) for _ in range(4)]
     if kind < 0.45:
+        return [CONSTANT_BUFFER | swizzle(), random.randrange(4), random.randrange(64)]
+    if kind < 0.67:
+        return [FOUR] + [random.randrange(1 << 32) for _ in range(4)]
+    if kind < 0.71:
         return [ONE, random.randrange(1 << 32)]
-    if kind < 0.47:  # an index that is an operand
+    if kind < 0.73:  # an index that is an operand
         return [0x06000000 | CONSTANT_BUFFER | swizzle(), 0, 5, 0x0010000A, 2]
-    if kind < 0.62:  # one component
+    if kind < 0.85:  # one component
         return [register | 0xA | random.randrange(4) << 4, random.randrange(16)]
     return [register | 6 | swizzle(), random.randrange(16)]
 
@@ -56,22 +57,19 @@ def declaration():
     ])
 
 
-MIX = [(0.09, declaration), (0.14, lambda: counted(54, 1)), (0.22, lambda: counted(56, 2)), (0.20, lambda: counted(50, 3)),
-       (0.12, lambda: counted(0, 2)), (0.07, lambda: counted(16, 2)), (0.08, sample), (0.03, lambda: [0x0304001F, 0x0010000A, 2]),
-       (0.03, lambda: [0x01000015]), (0.02, lambda: [0x0100003E])]
+DECK = (5 * [declaration] + 8 * [lambda: counted(54, 1)] + 7 * [lambda: counted(50, 3)] + 3 * [sample] + 3 * [lambda: counted(56, 2)]
+        + 3 * [lambda: counted(0, 2)] + [lambda: counted(16, 2)] + [lambda: [0x0304001F, 0x0010000A, 2]] + [lambda: [0x01000015]]
+        + [lambda: [0x0100003E]])
 
 
 def main(dwords, path):
-    random.seed(7)
-    stream = []
-    while len(stream) < dwords - 24:
-        pick = random.random()
-        for share, make in MIX:
-            if pick < share:
-                break
-            pick -= share
-        stream += make()
-    stream += [0x0100003A] * (dwords - 2 - len(stream))
+    random.seed(8)
+    stream, deck = [], []
+    while len(stream) < dwords - 2:
+        deck = deck or random.sample(DECK, len(DECK))
+        instruction = deck.pop()()
+        if len(stream) + len(instruction) <= dwords - 2:
+            stream += instruction
     with open(path, 'wb') as file:
         file.write(struct.pack('<%dI' % dwords, 0x50, dwords, *stream))
 

@@ -8,8 +8,9 @@
 
 use std::fs;
 
-/// The crates that `shex` is made of, leaves first: the reader's, and the encoder's, which it has beside it and the copies do not call.
-const CRATES: [&str; 18] = [
+/// The crates that `shex` is made of, leaves first: the reader's, and the encoder's and the calls on rows, which it has beside it and the
+/// copies do not call.
+const CRATES: [&str; 19] = [
     "format",
     "tokens",
     "layouts",
@@ -27,6 +28,7 @@ const CRATES: [&str; 18] = [
     "reading",
     "encode",
     "answers",
+    "rows",
     "shex",
 ];
 

@@ -1,10 +1,35 @@
 //! Calls the archive through this crate and compares whole answers, pools and outputs, entries past the used ones included. What is expected
-//! is worked out from document 01: its cases P1 to P10 and its rules on refusals, pools and rows.
+//! is worked out from document 01: its cases P1 to P10 and its rules on refusals, pools and rows; for longer chunks by oracle/paper.rs, a
+//! reading of that paper of its own.
+// where paper.rs takes its rows from
+extern crate self as told;
+#[path = "../../../oracle/paper.rs"]
+mod paper;
+
 use shex::{decode, encode, offsets, shows, words, Offsets, Reading, Refusal, Shown, LIMIT, SHDR, SHEX};
 
 /// What stands in a pool or an output before a call.
 const OLD: u32 = 0xDEAD_BEEF;
 const OLD_BYTE: u8 = 0xA5;
+
+/// The rows and words of an accepted chunk.
+#[derive(Default)]
+pub struct Rows {
+    pub instructions: Vec<u32>,
+    pub operands: Vec<u32>,
+    pub words: Vec<u32>,
+}
+
+impl Rows {
+    fn told(&self, version: u32) -> Reading {
+        Reading {
+            version,
+            instructions: self.instructions.len() as u32 / 16,
+            operands: self.operands.len() as u32 / 16,
+            words: self.words.len() as u32,
+        }
+    }
+}
 
 fn bytes(dwords: &[u32]) -> Vec<u8> {
     dwords.iter().flat_map(|d| d.to_le_bytes()).collect()
@@ -33,10 +58,14 @@ impl Pools {
 
     /// With these rows and words in front.
     fn holding(&self, instructions: &[[u32; 16]], operands: &[[u32; 16]], words: &[u32]) -> Pools {
+        self.with(&Rows { instructions: instructions.concat(), operands: operands.concat(), words: words.to_vec() })
+    }
+
+    fn with(&self, rows: &Rows) -> Pools {
         let mut p = self.clone();
-        p.instructions[..16 * instructions.len()].copy_from_slice(&instructions.concat());
-        p.operands[..16 * operands.len()].copy_from_slice(&operands.concat());
-        p.words[..words.len()].copy_from_slice(words);
+        p.instructions[..rows.instructions.len()].copy_from_slice(&rows.instructions);
+        p.operands[..rows.operands.len()].copy_from_slice(&rows.operands);
+        p.words[..rows.words.len()].copy_from_slice(&rows.words);
         p
     }
 
@@ -171,6 +200,102 @@ fn pools_of_every_length_around_the_room() {
                     assert_eq!(pools, after);
                 }
             }
+        }
+    }
+}
+
+/// A chunk of several instructions: temporaries, a sample with extensions, an index that is an operand, a modifier and four immediates,
+/// custom data, and then `last`.
+fn mixed(last: &[u32]) -> Vec<u8> {
+    let mut dwords = vec![0x50, 0, 0x0200_0068, 12];
+    dwords.extend([0x8B00_0045, 0x8000_00C2, 0x0015_5543, 0x0010_00F2, 0, 0x0010_0046, 1, 0x0010_7E46, 2, 0x0010_6000, 0]);
+    dwords.extend([0x0800_0036, 0x0010_00F2, 3, 0x0620_8E46, 0, 5, 0x0010_000A, 2]);
+    dwords.extend([0x0B00_0038, 0x0010_2072, 1, 0x8010_0E46, 0x41, 0, 0x0000_4002, 1, 2, 3, 4]);
+    dwords.extend([0x1835, 6, 9, 8, 7, 6]);
+    dwords.extend(last);
+    dwords[1] = dwords.len() as u32;
+    bytes(&dwords)
+}
+
+/// Chunks that are accepted, and four that are refused in their last instruction, with 11, 12, 13 and 14.
+fn longer_chunks() -> Vec<Vec<u8>> {
+    let mut chunks = vec![bytes(&P6), mixed(&[])];
+    chunks.extend([0x0100_003E, 0x3E, 0x0200_003E, 0x0100_0036, 0x0180_003E].map(|token| mixed(&[token])));
+    chunks.push(include_bytes!("../../../samples/grey.ps_4_0.shex").to_vec());
+    chunks.push(include_bytes!("../../../samples/grey.ps_5_1.shex").to_vec());
+    chunks.push(include_bytes!("../../../samples/grey.vs_5_0.shex").to_vec());
+    chunks
+}
+
+#[test]
+fn longer_chunks_and_pools_around_the_room() {
+    let paper = paper::Paper::default();
+    let mut numbers = Vec::new();
+    for chunk in longer_chunks() {
+        let m = chunk.len() / 4 - 2;
+        let lengths = [0, m - 1, m, 16 * m - 1, 16 * m, 16 * m + 5];
+        for (i, o, w) in lengths.iter().flat_map(|i| lengths.map(|o| (*i, o))).flat_map(|(i, o)| lengths.map(|w| (i, o, w))) {
+            for edition in if (i, o, w) == (16 * m, 16 * m, m) { 0..4 } else { 3..4 } {
+                let mut pools = Pools::of(i, o, w);
+                let (expected, after) = match paper.read(&chunk, SHEX, edition, [i, o, w]) {
+                    Ok((version, rows)) => (Ok(rows.told(version)), pools.with(&rows)),
+                    Err(refusal) => (Err(refusal), if refusal.0 > 10 { pools.filled(0) } else { pools.clone() }),
+                };
+                let answer = pools.decode(&chunk, SHEX, edition).map_err(|refusal| (refusal.number(), refusal.place()));
+                assert_eq!(answer, expected, "{i} {o} {w} {edition}");
+                assert!(pools == after, "{i} {o} {w} {edition}");
+                numbers.push(expected.map_or_else(|(number, _)| number, |_| 0));
+            }
+        }
+    }
+    numbers.sort();
+    numbers.dedup();
+    assert_eq!(numbers, [0, 10, 11, 12, 13, 14]);
+}
+
+#[test]
+fn longer_chunks_and_pools_and_outputs_around_their_lengths() {
+    for chunk in longer_chunks() {
+        let m = chunk.len() / 4 - 2;
+        let mut full = Pools::of(16 * m, 16 * m, m);
+        let Ok(reading) = full.decode(&chunk, SHEX, 3) else { continue };
+        let used = [16 * reading.instructions as usize, 16 * reading.operands as usize, reading.words as usize];
+        // the entries that are used, one more, all that were lent, and one too few
+        let around = |used: usize, lent: usize| [used, used + 1, lent, used.wrapping_sub(1)].into_iter().filter(move |n| *n <= lent);
+        for (i, o) in around(used[0], 16 * m).flat_map(|i| around(used[1], 16 * m).map(move |o| (i, o))) {
+            for (w, size) in around(used[2], m).flat_map(|w| [0, 1, 2, 11].map(|more| (w, chunk.len() - 2 + more))) {
+                let pools = Pools {
+                    instructions: full.instructions[..i].to_vec(),
+                    operands: full.operands[..o].to_vec(),
+                    words: full.words[..w].to_vec(),
+                };
+                let before = pools.clone();
+                let mut output = vec![OLD_BYTE; size];
+                let mut after = output.clone();
+                let expected = if i < used[0] || o < used[1] || w < used[2] {
+                    Err(Refusal::NoReading)
+                } else if size < chunk.len() {
+                    Err(Refusal::OutputShort)
+                } else {
+                    after[..chunk.len()].copy_from_slice(&chunk);
+                    Ok(chunk.len())
+                };
+                assert_eq!(pools.encode(3, reading, &mut output), expected, "{i} {o} {w} {size}");
+                assert!(output == after && pools == before, "{i} {o} {w} {size}");
+            }
+        }
+        // a count of one more, and the largest
+        for wrong in [
+            Reading { instructions: reading.instructions + 1, ..reading },
+            Reading { operands: reading.operands + 1, ..reading },
+            Reading { words: reading.words + 1, ..reading },
+            Reading { instructions: u32::MAX, ..reading },
+            Reading { operands: u32::MAX, ..reading },
+            Reading { words: u32::MAX, ..reading },
+        ] {
+            let mut output = vec![OLD_BYTE; chunk.len() + 64];
+            assert_eq!(full.encode(3, wrong, &mut output), Err(Refusal::NoReading), "{wrong:?}");
+            assert!(output.iter().all(|b| *b == OLD_BYTE));
         }
     }
 }
