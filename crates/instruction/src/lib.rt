@@ -204,7 +204,7 @@ pub struct Fields {
 }
 
 // Whether a code has a test bit.
-fn tests(code: u32) -> bool
+pub fn tests(code: u32) -> bool
     ensures { λ r. ⌜ r ≡ ct.within code (3 ∷ 5 ∷ 8 ∷ 13 ∷ 31 ∷ 63 ∷ []) ⌝ }
 {
     (code == 3) | (code == 5) | (code == 8) | (code == 13) | (code == 31) | (code == 63)

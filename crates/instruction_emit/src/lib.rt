@@ -10,8 +10,8 @@ ghost use Rattle.format.specs.Encoder as e;
 ghost use Rattle.operand_emit.specs.Emits.{put, Headed};
 ghost use Rattle.instruction_emit.specs.Emits as w;
 use operand_emit::copy;
-use operand_emit::pair;
 use operand_emit::put_dword;
+use operand_walk::pair;
 
 // The operand row and the dword of the output behind what was written.
 pub struct Ends {

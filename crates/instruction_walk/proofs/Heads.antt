@@ -118,11 +118,11 @@ module _ (q : List ℕ) (t : ℕ) (ec : at 2 q ≡ code t) where
     at-none : Unchained q 0 → Unchained q (cond (long t) 8 0)
     at-none u = rw (short z) u
 
-    no-dword : Unchained q 0 → headOfRow q ≡ []
+    pub no-dword : Unchained q 0 → headOfRow q ≡ []
     unfolding headOfRow
     no-dword u = rw (short-row z (inr (u .bits-are)), ec, k)
 
-    bare-head : Unchained q 0 → Head
+    pub bare-head : Unchained q 0 → Head
     unfolding headTaken linked
     bare-head u = headed-of k (at-none u) (rw (z, k, no-dword u))
 

@@ -13,3 +13,4 @@ pub mod Tokens
 pub mod SameRows
 pub mod Ways
 pub mod Short
+pub mod Declared

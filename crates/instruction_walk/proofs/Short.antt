@@ -24,7 +24,7 @@ use Rattle.layouts.proofs.Fields.{value, unbounded}
 use Rattle.operand_walk.proofs.Fields.{row-at}
 use Rattle.instruction.specs.Measure.{classed}
 use Rattle.instruction.proofs.Counted.{unsized}
-use Rattle.instruction_walk.specs.Walks.{Takes, rowFrom, Decides, holds, Chained, Headed, Fielded, Pieces, Placed, Counted, Bits, Plain, Known}
+use Rattle.instruction_walk.specs.Walks.{Takes, rowFrom, Decides, holds, Unchained, Chained, Headed, Fielded, Pieces, Placed, Counted, Bits, Plain, Known}
 use Rattle.instruction_walk.specs.declared.Walked.{Walked}
 use Rattle.instruction_walk.specs.declared.Walked.the-variants.{Is}
 use Rattle.instruction_walk.specs.declared.Parts.the-variants.{To}
@@ -222,13 +222,16 @@ pub unlike : (a b : ℕ) → not (eqb a b) ≡ true → a ≡ b → ⊥
 unlike a b e = eqb-false a b (not-true (eqb a b) e)
 
 module _ (l : List ℕ) (i : ℕ) where
-  pub plain-row : Bits (getD l (i + 2) 0) (getD l (i + 4) 0) (getD l (i + 5) 0) → (getD l (i + 6) 0 < 16) × (getD l (i + 7) 0 ≡ 0) → (getD l (i + 8) 0 ≡ 0) × (getD l (i + 9) 0 ≡ 0) → (getD l (i + 10) 0 ≡ 0) × (getD l (i + 11) 0 ≡ 0) → (getD l (i + 2) 0 ≡ 190 → ⊥) → Plain (rowFrom i l)
-  plain-row b (h₆, e₇) (e₈, e₉) (e₁₀, e₁₁) h₂ = record {
+  pub unextended-row : (getD l (i + 8) 0 ≡ 0) × (getD l (i + 9) 0 ≡ 0) → (getD l (i + 10) 0 ≡ 0) × (getD l (i + 11) 0 ≡ 0) → Unchained (rowFrom i l) 0
+  unextended-row (e₈, e₉) (e₁₀, e₁₁) = record { bits-are = row-at l i 8 (lit< tt) ∙ e₈; no-first = row-at l i 9 (lit< tt) ∙ e₉; no-second = row-at l i 10 (lit< tt) ∙ e₁₀; no-third = row-at l i 11 (lit< tt) ∙ e₁₁ }
+
+  pub plain-row : Bits (getD l (i + 2) 0) (getD l (i + 4) 0) (getD l (i + 5) 0) → (getD l (i + 6) 0 < 16) × (getD l (i + 7) 0 ≡ 0) → Unchained (rowFrom i l) 0 → (getD l (i + 2) 0 ≡ 190 → ⊥) → Plain (rowFrom i l)
+  plain-row b (h₆, e₇) u h₂ = record {
     code-is = λ z. h₂ (sym (row-at l i 2 (lit< tt)) ∙ z);
     bits-are = rw (row-at l i 2 (lit< tt), row-at l i 4 (lit< tt), row-at l i 5 (lit< tt)) b;
     precise-is = omega (arith, row-at l i 6 (lit< tt));
     field-is = row-at l i 7 (lit< tt) ∙ e₇;
-    no-chain = record { bits-are = row-at l i 8 (lit< tt) ∙ e₈; no-first = row-at l i 9 (lit< tt) ∙ e₉; no-second = row-at l i 10 (lit< tt) ∙ e₁₀; no-third = row-at l i 11 (lit< tt) ∙ e₁₁ };
+    no-chain = u;
   }
 
 pub counted-row : (l : List ℕ) (i k : ℕ) → operandCount (getD l (i + 2) 0) ≡ just k → getD l (i + 2) 0 < 2048 → Counted (rowFrom i l) k

@@ -3,12 +3,14 @@ use Rattle.format.specs.Basis.{ℕ, _+_, _-_, _*_, _/_, _%_, _^_, _<_, _≤_, _
 use Rattle.format.specs.Dwords.{bits}
 use Rattle.format.specs.Framing.{code, long, sized, lengthOf}
 use Rattle.format.specs.Counts.{within, operandCount, Fields, tokenWith, rising, ofType, typeBits}
-use Rattle.format.specs.Declarations.{Item, o, Layout, layout, inBounds}
+use Rattle.format.specs.Declarations.{Item, o, Layout, layout, fieldIn, inBounds}
 use Rattle.format.specs.Operands as op
 use Rattle.format.specs.Operands.{Tree}
 use Rattle.format.specs.Instructions.{Instruction, fieldsOf, extensions, dwords}
 use Rattle.format.specs.Rows.{partsRows, partsWords, topLevel, parts}
 use Rattle.format.specs.Encoder.{at, chainOf, tokenOfRow, headOfRow}
+use Rattle.layouts.specs.Shapes.{fieldOf}
+use Rattle.layouts.specs.declared.Shape.{Shape}
 use Rattle.instruction.specs.Measure.{classed}
 use Rattle.instruction.specs.declared.Place.{Place}
 use Rattle.instruction.specs.declared.Place.the-variants.{At, Off}
@@ -170,3 +172,22 @@ pub record Plain (q : List ℕ) : Type 0 where
 -- what walking answers of a known code, in either model
 abbrev pub Known : List ℕ → ℕ → List ℕ → List ℕ → ℕ → ℕ → Walked → Type 0
 Known q place rs ws r w a = (m : Bool) → a ≡ walkedInstruction (confirmKnown m q place rs ws r w)
+
+-- a short declaration's token: its code, its field and its length
+abbrev pub shortToken : List ℕ → ℕ
+shortToken q = at 2 q + at 7 q * 2 ^ 11 + at 1 q * 2 ^ 24
+
+-- a row with nothing but a field, which that token holds within its bounds
+pub record OnlyField (q : List ℕ) (x : Shape) : Type 0 where
+  pub no-saturate : at 4 q ≡ 0
+  pub no-test : at 5 q ≡ 0
+  pub no-precise : at 6 q ≡ 0
+  pub no-chain : Unchained q 0
+  pub short : at 1 q < 2 ^ 7
+  pub narrow : at 7 q < 2 ^ 13
+  pub field-is : fieldIn (fieldOf x) (shortToken q) ≡ at 7 q
+  pub bounds : inBounds (fieldOf x) (shortToken q) ≡ true
+
+-- k operands without an extension, each in a row of its own, stand between two words; Off says nothing
+abbrev pub Lone : ℕ → List ℕ → List ℕ → ℕ → ℕ → Place → Type 0
+Lone k rs ws r w p = (v : ℕ) → p ≡ At v → Runs k rs ws r w (To (r + k) v (k + (v - w)))

@@ -10,9 +10,9 @@ ghost use Rattle.format.specs.Counts as ct;
 ghost use Rattle.format.specs.Declarations as dc;
 ghost use Rattle.format.specs.Encoder as e;
 ghost use Rattle.layouts.specs.Shapes.{Sound, Laid, listed, itemsOf};
-ghost use Rattle.instruction.specs.Measure.{Listed, rest, fieldsIn};
+ghost use Rattle.instruction.specs.Measure.{Listed, rest, fieldsIn, Declared};
 ghost use Rattle.instruction_walk.specs.Confirm as c;
-ghost use Rattle.instruction_walk.specs.Walks.{walkedInstruction, Takes, PassesIn, Passes, wordsOn, Runs, rowFrom, Decides, Counts, Unchained, Chained, Headed, Fielded, Sized, Pieces, Placed, Bare, Counted, Bits, Plain, Known};
+ghost use Rattle.instruction_walk.specs.Walks.{walkedInstruction, Takes, PassesIn, Passes, wordsOn, Runs, rowFrom, Decides, Counts, Unchained, Chained, Headed, Fielded, Sized, Pieces, Placed, Bare, Counted, Bits, Plain, Known, OnlyField, Lone};
 use header::long;
 use header::sized;
 use instruction::Fields;
@@ -22,8 +22,12 @@ use instruction::exact_token;
 use instruction::extra;
 use instruction::fields_of;
 use instruction::list_length;
+use instruction::tests;
 use layouts::Shape;
 use layouts::counted_layout;
+use layouts::declaration;
+use layouts::declared;
+use layouts::field_of;
 use layouts::in_bounds;
 use layouts::operand_count;
 use layouts::uncounted_layout;
@@ -476,13 +480,6 @@ fn known(
     }
 }
 
-// Whether a code has a test bit.
-fn tests(code: u32) -> bool
-    ensures { λ r. ⌜ r ≡ ct.within code (3 ∷ 5 ∷ 8 ∷ 13 ∷ 31 ∷ 63 ∷ []) ⌝ }
-{
-    (code == 3) | (code == 5) | (code == 8) | (code == 13) | (code == 31) | (code == 63)
-}
-
 // Whether a token of a code with a test holds saturate and test, which is set, as they are.
 fn tested(code: u32, saturate: u32, test: u32) -> bool
     ensures { λ r. ⌜ (r ≡ true → Bits code saturate test) ⌝ }
@@ -494,6 +491,17 @@ fn tested(code: u32, saturate: u32, test: u32) -> bool
         return false;
     }
     tests(code)
+}
+
+// Whether a row tells of nothing after its token, by two words at once.
+fn unextended(instructions: &[u32], first: usize) -> bool
+    requires { ⌜ first + 16 ≤ length (now instructions) ⌝ }
+    ensures { λ r. ⌜ (r ≡ true → Unchained (rowFrom first (now (instructions .entry))) 0) ⌝ }
+{
+    if pair(instructions[first + 10], instructions[first + 11]) != 0 {
+        return false;
+    }
+    pair(instructions[first + 8], instructions[first + 9]) == 0
 }
 
 // Whether a row has no field or extension, and other numbers that a token holds as they are.
@@ -513,10 +521,7 @@ fn plain(instructions: &[u32], first: usize) -> bool
     if 16 <= pair(instructions[first + 6], instructions[first + 7]) {
         return false;
     }
-    if pair(instructions[first + 8], instructions[first + 9]) != 0 {
-        return false;
-    }
-    if pair(instructions[first + 10], instructions[first + 11]) != 0 {
+    if !unextended(instructions, first) {
         return false;
     }
     instructions[first + 2] != 190
@@ -568,6 +573,130 @@ fn quick(
     } else {
         0
     }
+}
+
+// Whether a row of a short declaration has nothing but a field, which its token holds within its bounds.
+fn only_field(instructions: &[u32], first: usize, s: Shape) -> bool
+    requires { ⌜ (first + 16 ≤ length (now instructions)) × (getD (now instructions) (first + 2) 0 < 2048) × Sound s ⌝ }
+    ensures { λ r. ⌜ (r ≡ true → OnlyField (rowFrom first (now (instructions .entry))) s) ⌝ }
+{
+    if pair(instructions[first + 4], instructions[first + 5]) != 0 {
+        return false;
+    }
+    if instructions[first + 6] != 0 {
+        return false;
+    }
+    if !unextended(instructions, first) {
+        return false;
+    }
+    let n = instructions[first + 1];
+    if 128 <= n {
+        return false;
+    }
+    let f = instructions[first + 7];
+    if 0x2000 <= f {
+        return false;
+    }
+    let t = instructions[first + 2] + f * 0x800 + n * 0x100_0000;
+    if field_of(s, t) != f {
+        return false;
+    }
+    in_bounds(s, t)
+}
+
+// Past an operand that stands alone and has no extension, if there is to be one. Off says nothing.
+fn past_lone(operands: &[u32], words: &[u32], row: usize, at: usize, count: u32) -> Place
+    requires { ⌜ (at ≤ length (now words)) × (count ≤ 1) ⌝ }
+    ensures { λ r. ⌜ Lone count (now (operands .entry)) (now (words .entry)) row at r ⌝ }
+{
+    if count == 0 {
+        return Place::At(at);
+    }
+    if behind(operands.len() / 16, row) < 1 {
+        return Place::Off;
+    }
+    if operand_walk::run(operands, row, at, 1, words.len()) != 1 {
+        return Place::Off;
+    }
+    Place::At(at + wide(operands[16 * row + 15]) - 1)
+}
+
+// Counts the dwords of a declaration, where its row has only a field and its operand stands alone. 0 says nothing.
+fn declared_dwords(
+    instructions: &[u32],
+    first: usize,
+    place: usize,
+    model51: bool,
+    operands: &[u32],
+    row: usize,
+    words: &[u32],
+    word: usize,
+    s: Shape,
+) -> usize
+    requires { ⌜ (first + 16 ≤ length (now instructions)) × (word ≤ length (now words)) × (getD (now instructions) (first + 2) 0 < 2048) × Declared (getD (now instructions) (first + 2) 0) s ⌝ }
+    ensures { λ n. ⌜ (0 < n → Walked.Is (s .operands) n ≡ walkedInstruction (c.confirmKnown model51 (rowFrom first (now (instructions .entry))) place (drop (16 * row) (now (operands .entry))) (drop word (now (words .entry))) row word)) ⌝ }
+{
+    if !only_field(instructions, first, s) {
+        return 0;
+    }
+    let Place::At(a) = past_words(words, word, s.before) else {
+        return 0;
+    };
+    let Place::At(b) = past_lone(operands, words, row, a, s.operands) else {
+        return 0;
+    };
+    let Place::At(end) = past_rest(words, b, s, model51) else {
+        return 0;
+    };
+    let k = end - word;
+    if !placed(instructions, first, place, s.kind, row, s.operands, word, k) {
+        return 0;
+    }
+    let n = 1 + wide(s.operands) + k;
+    if wide(instructions[first + 1]) == n {
+        n
+    } else {
+        0
+    }
+}
+
+// Walks an instruction of a known code, by the short way of a declaration if that says something. Codes with a count come here too: with
+// two calls `known` would not be copied into its caller, which would be slower.
+fn declared_or_known(
+    instructions: &[u32],
+    at: usize,
+    place: usize,
+    model51: bool,
+    operands: &[u32],
+    row: usize,
+    words: &[u32],
+    word: usize,
+) -> Walked
+    requires { ⌜ (at + 16 ≤ length (now instructions)) × (word ≤ length (now words)) × (getD (now instructions) (at + 2) 0 < 2048) ⌝ }
+    ensures { λ r. ⌜ r ≡ walkedInstruction (c.confirmKnown model51 (rowFrom at (now (instructions .entry))) place (drop (16 * row) (now (operands .entry))) (drop word (now (words .entry))) row word) ⌝ }
+{
+    let d = declaration(instructions[at + 2]);
+    if d != 0 {
+        let s = declared(d);
+        let n = declared_dwords(
+            instructions,
+            at,
+            place,
+            model51,
+            operands,
+            row,
+            words,
+            word,
+            s,
+        );
+        if n != 0 {
+            return Walked::Is {
+                rows: wide(s.operands),
+                dwords: n,
+            };
+        }
+    }
+    known(instructions, at, place, model51, operands, row, words, word)
 }
 
 // The length of the instruction whose dwords are the words from a word on, as they tell it.
@@ -671,5 +800,5 @@ pub fn walk(
             };
         }
     }
-    known(instructions, at, place, model51, operands, row, words, word)
+    declared_or_known(instructions, at, place, model51, operands, row, words, word)
 }

@@ -9,6 +9,7 @@ ghost use Rattle.format.specs.Encoder as e;
 ghost use Rattle.operand_walk.specs.Confirm as c;
 ghost use Rattle.operand_walk.specs.Walks.{there, rowAt};
 ghost use Rattle.operand_emit.specs.Emits as w;
+use operand_walk::pair;
 
 // The row, the word and the dword of the output behind what was written.
 pub struct Ends {
@@ -133,13 +134,6 @@ fn lone(
         word: word + n,
         at: end,
     }
-}
-
-// Joins two neighbouring words: they are compared at once.
-pub fn pair(low: u32, high: u32) -> u64
-    ensures { λ r. ⌜ r ≡ low + high * 2 ^ 32 ⌝ }
-{
-    low as u64 + high as u64 * 0x1_0000_0000
 }
 
 // Makes the dword of an operand without representations from the row at a place, but for bit 31.

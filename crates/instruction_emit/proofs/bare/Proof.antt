@@ -73,7 +73,7 @@ pair-requires-3 : tie.Need-pair-requires-3
 pair-requires-3 c κs = search needs
 
 returns-3 : tie.Need-returns-3
-returns-3 c = let a = c .before .before .before .before .before .before .before .before .before .before .before .before .args in bare-is (a .instructions .now) (a .first) _ _ _ (c .before .before .before .before .before .before .before .before .pair .ensures) (c .before .before .before .before .before .before .before .if1 .left) (c .before .before .before .before .pair2 .ensures) (c .before .before .before .if2 .left) (c .pair3 .ensures)
+returns-3 c = let a = c .before .before .before .before .before .before .before .before .before .before .before .before .args in bare-is (a .instructions .now) (a .first) _ _ _ (c .before .before .before .before .before .before .before .before .pair .ensures .0) (c .before .before .before .before .before .before .before .if1 .left) (c .before .before .before .before .pair2 .ensures .0) (c .before .before .before .if2 .left) (c .pair3 .ensures .0)
 
 pub bare-spec : {M : Type 1} → statement M
 bare-spec =

@@ -1,7 +1,6 @@
 use mathlib.Core.Logic.{⊎-elim}
 use lib.Dec.{lit<}
 use borrow.Author.Tests.{not-false}
-use Rattle.operand_walk.proofs.Alone.{apart}
 use Rattle.instruction_walk.proofs.Short.{other, untested, below, unlike, plain-row}
 use borrow.Author.Needs.{needs}
 use Rattle.instruction_walk.proofs.plain.Statement.{statement}
@@ -85,53 +84,11 @@ pair-requires-2 c κs = search needs
 returns-2 : tie.Need-returns-2
 returns-2 c = other
 
-add-pair-5 : tie.Need-add-pair-5
-add-pair-5 c = search needs
-
-mul-pair-5 : tie.Need-mul-pair-5
-mul-pair-5 c = search needs
-
-shared-slice-read-pair-5 : tie.Need-shared-slice-read-pair-5
-shared-slice-read-pair-5 c = search needs
-
-add-pair-6 : tie.Need-add-pair-6
-add-pair-6 c = search needs
-
-mul-pair-6 : tie.Need-mul-pair-6
-mul-pair-6 c = search needs
-
-shared-slice-read-pair-6 : tie.Need-shared-slice-read-pair-6
-shared-slice-read-pair-6 c = search needs
-
-pair-requires-3 : tie.Need-pair-requires-3
-pair-requires-3 c κs = search needs
+unextended-requires : tie.Need-unextended-requires
+unextended-requires c κs = search needs
 
 returns-3 : tie.Need-returns-3
 returns-3 c = other
-
-add-pair-7 : tie.Need-add-pair-7
-add-pair-7 c = search needs
-
-mul-pair-7 : tie.Need-mul-pair-7
-mul-pair-7 c = search needs
-
-shared-slice-read-pair-7 : tie.Need-shared-slice-read-pair-7
-shared-slice-read-pair-7 c = search needs
-
-add-pair-8 : tie.Need-add-pair-8
-add-pair-8 c = search needs
-
-mul-pair-8 : tie.Need-mul-pair-8
-mul-pair-8 c = search needs
-
-shared-slice-read-pair-8 : tie.Need-shared-slice-read-pair-8
-shared-slice-read-pair-8 c = search needs
-
-pair-requires-4 : tie.Need-pair-requires-4
-pair-requires-4 c κs = search needs
-
-returns-4 : tie.Need-returns-4
-returns-4 c = other
 
 add-result : tie.Need-add-result
 add-result c = search needs
@@ -142,8 +99,8 @@ mul-result c = search needs
 shared-slice-read-result : tie.Need-shared-slice-read-result
 shared-slice-read-result c = search needs
 
-returns-5 : tie.Need-returns-5
-returns-5 c = λ e. plain-row (c .before .before .before .before .before .before .before .before .before .before .before .before .before .before .before .before .before .before .args .instructions .now) (c .before .before .before .before .before .before .before .before .before .before .before .before .before .before .before .before .before .before .args .first) (⊎-elim (λ z. z .4 .ensures (not-false _ (z .5 .left))) (λ z. untested _ (c .before .before .before .before .before .before .before .before .before .before .before .before .before .before .pair .ensures .0) (z .left)) (c .before .before .before .before .before .before .before .before .before .before .before .before .before .if1 .came)) (below _ _ 16 (c .before .before .before .before .before .before .before .before .before .before .pair2 .ensures .0) (lit< tt) (c .before .before .before .before .before .before .before .before .before .if3 .left)) (apart _ _ 0 0 (c .before .before .before .before .before .before .pair3 .ensures .0) (c .before .before .before .before .before .before .pair3 .ensures .1) (lit< tt) (c .before .before .before .before .before .if4 .left)) (apart _ _ 0 0 (c .before .before .pair4 .ensures .0) (c .before .before .pair4 .ensures .1) (lit< tt) (c .before .if5 .left)) (unlike _ _ e)
+returns-4 : tie.Need-returns-4
+returns-4 c = λ e. plain-row (c .before .before .before .before .before .before .before .before .before .before .before .before .args .instructions .now) (c .before .before .before .before .before .before .before .before .before .before .before .before .args .first) (⊎-elim (λ z. z .4 .ensures (not-false _ (z .5 .left))) (λ z. untested _ (c .before .before .before .before .before .before .before .before .pair .ensures .0) (z .left)) (c .before .before .before .before .before .before .before .if1 .came)) (below _ _ 16 (c .before .before .before .before .pair2 .ensures .0) (lit< tt) (c .before .before .before .if3 .left)) (c .before .before .unextended .ensures (not-false _ (c .before .if4 .left))) (unlike _ _ e)
 
 pub plain-spec : {M : Type 1} → statement M
 plain-spec =
@@ -175,23 +132,9 @@ plain-spec =
     shared-slice-read-pair-4
     pair-requires-2
     returns-2
-    add-pair-5
-    mul-pair-5
-    shared-slice-read-pair-5
-    add-pair-6
-    mul-pair-6
-    shared-slice-read-pair-6
-    pair-requires-3
+    unextended-requires
     returns-3
-    add-pair-7
-    mul-pair-7
-    shared-slice-read-pair-7
-    add-pair-8
-    mul-pair-8
-    shared-slice-read-pair-8
-    pair-requires-4
-    returns-4
     add-result
     mul-result
     shared-slice-read-result
-    returns-5)
+    returns-4)

@@ -33,11 +33,11 @@ wide-requires c κs = search needs
 returns-2 : tie.Need-returns-2
 returns-2 c = by-known (c .before .before .before .before .before .before .before .before .before .before .args .instructions .now) (c .before .before .before .before .before .before .before .before .before .before .args .at) (c .before .before .before .before .before .before .before .before .before .before .args .place) (c .before .before .before .before .before .before .before .before .before .before .args .ceiling) (c .before .before .before .before .before .before .before .before .before .before .args .model51) (c .before .before .before .before .before .before .before .before .before .before .args .operands .now) (c .before .before .before .before .before .before .before .before .before .before .args .words .now) (c .before .before .before .before .before .before .before .before .before .before .args .row) (c .before .before .before .before .before .before .before .before .before .before .args .word) (c .before .before .before .before .before .if1 .left) (quickly (c .wide .ensures) (c .before .if3 .taken) (c .before .before .quick .ensures) _)
 
-known-requires : tie.Need-known-requires
-known-requires c κs = search needs
+declared-or-known-requires : tie.Need-declared-or-known-requires
+declared-or-known-requires c κs = (c .before .before .before .before .before .before .before .pre .0, c .before .before .before .before .before .before .before .pre .1, omega (arith, c .before .before .if1 .left, c .before .before .before .before .before .before .before .pre .2))
 
 returns-3 : tie.Need-returns-3
-returns-3 c = by-known (c .before .before .before .before .before .before .before .before .args .instructions .now) (c .before .before .before .before .before .before .before .before .args .at) (c .before .before .before .before .before .before .before .before .args .place) (c .before .before .before .before .before .before .before .before .args .ceiling) (c .before .before .before .before .before .before .before .before .args .model51) (c .before .before .before .before .before .before .before .before .args .operands .now) (c .before .before .before .before .before .before .before .before .args .words .now) (c .before .before .before .before .before .before .before .before .args .row) (c .before .before .before .before .before .before .before .before .args .word) (c .before .before .before .if1 .left) (c .known .ensures)
+returns-3 c = by-known (c .before .before .before .before .before .before .before .before .args .instructions .now) (c .before .before .before .before .before .before .before .before .args .at) (c .before .before .before .before .before .before .before .before .args .place) (c .before .before .before .before .before .before .before .before .args .ceiling) (c .before .before .before .before .before .before .before .before .args .model51) (c .before .before .before .before .before .before .before .before .args .operands .now) (c .before .before .before .before .before .before .before .before .args .words .now) (c .before .before .before .before .before .before .before .before .args .row) (c .before .before .before .before .before .before .before .before .args .word) (c .before .before .before .if1 .left) (c .declared-or-known .ensures)
 
 pub walk-spec : {M : Type 1} → statement M
 walk-spec =
@@ -52,5 +52,5 @@ walk-spec =
     quick-requires
     wide-requires
     returns-2
-    known-requires
+    declared-or-known-requires
     returns-3)

@@ -35,13 +35,13 @@ shared-slice-read-if1 : tie.Need-shared-slice-read-if1
 shared-slice-read-if1 c = search needs
 
 returns : tie.Need-returns
-returns c = let a = c .before .before .before .before .before .before .before .args in way-modified (a .operands .now) (a .o) (c .before .before .before .pair .ensures) (eqb-true _ 1 (c .if2 .taken)) (c .before .if1 .taken)
+returns c = let a = c .before .before .before .before .before .before .before .args in way-modified (a .operands .now) (a .o) (c .before .before .before .pair .ensures .0) (eqb-true _ 1 (c .if2 .taken)) (c .before .if1 .taken)
 
 returns-2 : tie.Need-returns-2
 returns-2 c = search needs
 
 returns-3 : tie.Need-returns-3
-returns-3 c = let a = c .before .before .before .before .before .before .before .args in way-one (a .operands .now) (a .o) (c .before .before .before .pair .ensures) (eqb-true _ 1 (c .if3 .taken)) (c .before .if1 .left)
+returns-3 c = let a = c .before .before .before .before .before .before .before .args in way-one (a .operands .now) (a .o) (c .before .before .before .pair .ensures .0) (eqb-true _ 1 (c .if3 .taken)) (c .before .if1 .left)
 
 add-if4 : tie.Need-add-if4
 add-if4 c = search needs

@@ -1,0 +1,146 @@
+use mathlib.Core.Path.{refl}
+use lib.Dec.{lit<}
+use borrow.Author.Tests.{not-false}
+use Rattle.operand_walk.proofs.Alone.{apart}
+use Rattle.instruction_walk.proofs.Short.{other}
+use Rattle.instruction_walk.proofs.Declared.{field-row}
+use borrow.Author.Needs.{needs}
+use Rattle.instruction_walk.proofs.only_field.Statement.{statement}
+use Rattle.instruction_walk.proofs.only_field.Tie as tie
+
+add-pair : tie.Need-add-pair
+add-pair c = search needs
+
+mul-pair : tie.Need-mul-pair
+mul-pair c = search needs
+
+shared-slice-read-pair : tie.Need-shared-slice-read-pair
+shared-slice-read-pair c = search needs
+
+add-pair-2 : tie.Need-add-pair-2
+add-pair-2 c = search needs
+
+mul-pair-2 : tie.Need-mul-pair-2
+mul-pair-2 c = search needs
+
+shared-slice-read-pair-2 : tie.Need-shared-slice-read-pair-2
+shared-slice-read-pair-2 c = search needs
+
+pair-requires : tie.Need-pair-requires
+pair-requires c κs = search needs
+
+returns : tie.Need-returns
+returns c = other
+
+add-if2 : tie.Need-add-if2
+add-if2 c = search needs
+
+mul-if2 : tie.Need-mul-if2
+mul-if2 c = search needs
+
+shared-slice-read-if2 : tie.Need-shared-slice-read-if2
+shared-slice-read-if2 c = search needs
+
+returns-2 : tie.Need-returns-2
+returns-2 c = other
+
+unextended-requires : tie.Need-unextended-requires
+unextended-requires c κs = search needs
+
+returns-3 : tie.Need-returns-3
+returns-3 c = other
+
+add-n : tie.Need-add-n
+add-n c = search needs
+
+mul-n : tie.Need-mul-n
+mul-n c = search needs
+
+shared-slice-read-n : tie.Need-shared-slice-read-n
+shared-slice-read-n c = search needs
+
+returns-4 : tie.Need-returns-4
+returns-4 c = other
+
+add-f : tie.Need-add-f
+add-f c = search needs
+
+mul-f : tie.Need-mul-f
+mul-f c = search needs
+
+shared-slice-read-f : tie.Need-shared-slice-read-f
+shared-slice-read-f c = search needs
+
+returns-5 : tie.Need-returns-5
+returns-5 c = other
+
+add-t : tie.Need-add-t
+add-t c = search needs
+
+mul-t : tie.Need-mul-t
+mul-t c = search needs
+
+shared-slice-read-t : tie.Need-shared-slice-read-t
+shared-slice-read-t c = search needs
+
+mul-t-2 : tie.Need-mul-t-2
+mul-t-2 c = search needs
+
+add-t-2 : tie.Need-add-t-2
+add-t-2 c = search needs
+
+mul-t-3 : tie.Need-mul-t-3
+mul-t-3 c = search needs
+
+add-t-3 : tie.Need-add-t-3
+add-t-3 c = search needs
+
+field-of-requires : tie.Need-field-of-requires
+field-of-requires c κs = search needs
+
+returns-6 : tie.Need-returns-6
+returns-6 c = other
+
+in-bounds-requires : tie.Need-in-bounds-requires
+in-bounds-requires c κs = search needs
+
+returns-7 : tie.Need-returns-7
+returns-7 c = λ y. field-row (c .before .before .before .before .before .before .before .before .before .before .before .before .before .before .before .before .before .args .instructions .now) (c .before .before .before .before .before .before .before .before .before .before .before .before .before .before .before .before .before .args .first) (c .before .before .before .before .before .before .before .before .before .before .before .before .before .before .before .before .before .args .s) (apart _ _ 0 0 (c .before .before .before .before .before .before .before .before .before .before .before .before .before .pair .ensures .0) (c .before .before .before .before .before .before .before .before .before .before .before .before .before .pair .ensures .1) (lit< tt) (c .before .before .before .before .before .before .before .before .before .before .before .before .if1 .left)) (c .before .before .before .before .before .before .before .before .before .before .if2 .left) (c .before .before .before .before .before .before .before .before .before .unextended .ensures (not-false _ (c .before .before .before .before .before .before .before .before .if3 .left))) (c .before .before .before .before .before .before .if4 .left) (c .before .before .before .before .if5 .left) refl (c .before .before .field-of .ensures) (c .before .if6 .left) (c .in-bounds .ensures) y
+
+pub only-field-spec : {M : Type 1} → statement M
+only-field-spec =
+    tie.close
+    (tie.spec
+    add-pair
+    mul-pair
+    shared-slice-read-pair
+    add-pair-2
+    mul-pair-2
+    shared-slice-read-pair-2
+    pair-requires
+    returns
+    add-if2
+    mul-if2
+    shared-slice-read-if2
+    returns-2
+    unextended-requires
+    returns-3
+    add-n
+    mul-n
+    shared-slice-read-n
+    returns-4
+    add-f
+    mul-f
+    shared-slice-read-f
+    returns-5
+    add-t
+    mul-t
+    shared-slice-read-t
+    mul-t-2
+    add-t-2
+    mul-t-3
+    add-t-3
+    field-of-requires
+    returns-6
+    in-bounds-requires
+    returns-7)
