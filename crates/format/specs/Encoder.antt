@@ -29,7 +29,6 @@ _⨾_ p q rs ws =
     let b = q (a .rows) (a .words) in
     record { dwords = a .dwords ++ b .dwords; rows = b .rows; words = b .words }
 
--- these dwords
 abbrev pub these : List ℕ → Maker
 these l rs ws = record { dwords = l; rows = rs; words = ws }
 
@@ -46,7 +45,6 @@ unfoldable pub extensionOf : ℕ → List ℕ
 extensionOf zero = []
 extensionOf (suc n) = let m = suc n in extensionWith (m % 4) (m / 16) (m / 4 % 2) ∷ []
 
--- the dword of an operand
 unfoldable pub operandDword : List ℕ → ℕ
 operandDword q = dwordWith (at 1 q) (at 2 q) (at 0 q) (at 6 q) (at 7 q) (length (extensionOf (at 3 q)))
 
