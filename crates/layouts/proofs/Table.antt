@@ -1,10 +1,10 @@
 -- The rule of the table of declarations; the row of a code.
-use Prim.Native.Nat.{ℕ, _-_, _%_, _<_, _≤_}
+use Prim.Native.Nat.{ℕ, zero, suc, _+_, _-_, _%_, _<_, _≤_}
 use mathlib.Core.Path.{_≡_, refl, _∙_, ap, subst}
 use mathlib.Core.Bool.{Bool, true, false, cond}
 use mathlib.Core.List.{List, [], _∷_, map}
 use native.Mathlib.Omega.{arith}
-use lib.Dec.{eqb, ltb}
+use lib.Dec.{T, eqb, ltb, lit<}
 use lib.ListN.{length, getD}
 use borrow.Author.Tests.{ltb-true, ltb-false, lt-ltb, le-ltb, ne-eqb}
 use Rattle.format.specs.Counts.{numbers, within, lineOf, operandCount}
@@ -73,9 +73,23 @@ right l z i e h =
     record { code = ap (λ x. x .0) p; laid = record { meaning = ap (λ x. x .1) p; sound = sound (shapeOf (getD l i z)) (ap (λ x. x .2) p) } }
 
 -- the rule of the whole table, computed once
-pub rule : (z i : ℕ) → i < 40 → Right i (getD rows i z)
+rule : (i : ℕ) → i < 40 → Right i (getD rows i 0)
 unfolding rows numbers within lineOf operandCount inTable layout fieldOf itemsOf codeOf
-rule z i h = right rows z i refl h
+rule i h = right rows 0 i refl h
+
+-- so the table's entry k is right for a row that a `match` found to be k
+pub entry : {i : ℕ} (k : ℕ) → T (ltb k 40) → i ≡ k → Right i (getD rows k 0)
+entry k h e = rw e (rule k (lit< h))
+
+-- what a `match` tells in its last arm: a number is none of the n numbers from a on
+abbrev Others : ℕ → ℕ → ℕ → Type 0
+Others a zero i = Unit
+Others a (suc n) i = Others a n i × (i ≡ a + n → ⊥)
+
+-- so it stands past them
+pub past : (a n i : ℕ) → Others a n i → a ≤ i → a + n ≤ i
+past a zero i u h = omega arith
+past a (suc n) i (r, m) h = let p = past a n i r h in omega arith
 
 -- ---- the row of a code, by comparisons
 module _ (c : ℕ) where

@@ -150,12 +150,65 @@ fn row_of(code: u32) -> usize
     40
 }
 
-// A row of the table, which tells its code's layout.
+// A row of the table's second half, by constant indices as in `row_at`, which is in two so that neither function is long.
+fn row_from_20(row: usize) -> u32
+    requires { ⌜ (20 ≤ row) × (row < 40) ⌝ }
+    ensures { λ r. ⌜ Right row r ⌝ }
+{
+    match row {
+        20 => DECLARATIONS[20],
+        21 => DECLARATIONS[21],
+        22 => DECLARATIONS[22],
+        23 => DECLARATIONS[23],
+        24 => DECLARATIONS[24],
+        25 => DECLARATIONS[25],
+        26 => DECLARATIONS[26],
+        27 => DECLARATIONS[27],
+        28 => DECLARATIONS[28],
+        29 => DECLARATIONS[29],
+        30 => DECLARATIONS[30],
+        31 => DECLARATIONS[31],
+        32 => DECLARATIONS[32],
+        33 => DECLARATIONS[33],
+        34 => DECLARATIONS[34],
+        35 => DECLARATIONS[35],
+        36 => DECLARATIONS[36],
+        37 => DECLARATIONS[37],
+        38 => DECLARATIONS[38],
+        _ => DECLARATIONS[39],
+    }
+}
+
+// A row of the table, which tells its code's layout. Each arm takes its row by a constant index, which the compiler turns into a number: an
+// index that varies would have the whole table copied to the stack at each call. The second half is called in the last arm, and not beside
+// the first by an `if`: so the compiler makes one match of both.
 fn row_at(row: usize) -> u32
     requires { ⌜ row < 40 ⌝ }
     ensures { λ r. ⌜ Right row r ⌝ }
 {
-    DECLARATIONS[row]
+    match row {
+        0 => DECLARATIONS[0],
+        1 => DECLARATIONS[1],
+        2 => DECLARATIONS[2],
+        3 => DECLARATIONS[3],
+        4 => DECLARATIONS[4],
+        5 => DECLARATIONS[5],
+        6 => DECLARATIONS[6],
+        7 => DECLARATIONS[7],
+        8 => DECLARATIONS[8],
+        9 => DECLARATIONS[9],
+        10 => DECLARATIONS[10],
+        11 => DECLARATIONS[11],
+        12 => DECLARATIONS[12],
+        13 => DECLARATIONS[13],
+        14 => DECLARATIONS[14],
+        15 => DECLARATIONS[15],
+        16 => DECLARATIONS[16],
+        17 => DECLARATIONS[17],
+        18 => DECLARATIONS[18],
+        19 => DECLARATIONS[19],
+        _ => row_from_20(row),
+    }
 }
 
 // A declaration's row of the table; 0: the code declares nothing.
