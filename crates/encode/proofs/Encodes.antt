@@ -75,6 +75,7 @@ module _ (v : ℕ) (is os ws : List ℕ) (i o w : ℕ) (out : List ℕ) {d c : �
         let zn : n - 0 ≡ w = omega (arith, en) in
         let k : length (take (x * 16 - 0) is) / 16 ≡ i = ap (λ (j : ℕ). length (take j is) / 16) zx ∙ omega (arith, length-take-le (16 * i) is (y .instructions-inside)) in
         record {
+          whole = omega (arith, ap (λ (j : ℕ). length (take j is)) zx, length-take-le (16 * i) is (y .instructions-inside));
           confirmed = (λ j. confirmAll c m (k j) 8 (take (zx j) is) (take (zy j) os) (take (zn j) ws) 0 0) ∙ y .confirmed;
           dwords-are = y .dwords-are;
           fits = omega (arith, y .small);

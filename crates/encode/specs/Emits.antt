@@ -5,31 +5,43 @@ use Rattle.format.specs.Instructions.{Instruction, allDwords}
 use Rattle.operand_emit.specs.Emits.{put}
 use Rattle.reading.specs.declared.Walk.{Walk}
 use Rattle.format.specs.declared.Encoded.{Encoded}
+use Rattle.encode.specs.declared.Spot.{Spot}
 use Rattle.format.specs.Encoder.{chunkOf, into, encodeAnswer, outputAfter}
 use Rattle.reading.specs.Confirm.{confirmAll}
 use Rattle.reading.specs.Walks.{onward}
 
+-- a number of whole rows
+abbrev pub WholeRows : ℕ → Type 0
+WholeRows n = 16 * (n / 16) ≡ n
+
+-- how far a walk by numbers has come at a spot
+abbrev pub walked : Spot → Walk
+walked s = record { at = s .at; instruction = s .first / 16; row = s .operand / 16; word = s .word }
+
 -- instructions are confirmed from a place on, there is room for them, and with them the output is the final one
-pub record Left (is rs ws : List ℕ) (s : Walk) (out final : List ℕ) : Type 0 where
+pub record Left (is rs ws : List ℕ) (s : Spot) (out final : List ℕ) : Type 0 where
   pub ceiling : ℕ
   pub model51 : Bool
   pub list : List Instruction
-  pub confirmed : onward ceiling model51 is rs ws s ≡ just list
+  pub whole : WholeRows (length is)
+  pub first-whole : WholeRows (s .first)
+  pub operand-whole : WholeRows (s .operand)
+  pub confirmed : onward ceiling model51 is rs ws (walked s) ≡ just list
   pub word-within : s .word ≤ length ws
   pub room : 4 * (s .at + length (allDwords list)) ≤ length out
   pub ends : put (4 * s .at) (bytesOf (allDwords list)) out ≡ final
 
-pub record Going (is rs ws : List ℕ) (s : Walk) (out : List ℕ) : Type 0 where
+pub record Going (is rs ws : List ℕ) (s : Spot) (out : List ℕ) : Type 0 where
   pub final : List ℕ
   pub left : Left is rs ws s out final
 
 -- one instruction further, to the same end
-abbrev pub Toward : List ℕ → List ℕ → List ℕ → Walk → List ℕ → Walk → List ℕ → Type 0
-Toward is rs ws s out t out′ = (t .instruction ≡ s .instruction + 1) × ((final : List ℕ) → Left is rs ws s out final → Left is rs ws t out′ final)
+abbrev pub Toward : List ℕ → List ℕ → List ℕ → Spot → List ℕ → Spot → List ℕ → Type 0
+Toward is rs ws s out t out′ = (t .first ≡ s .first + 16) × ((final : List ℕ) → Left is rs ws s out final → Left is rs ws t out′ final)
 
 -- before the first instruction
-abbrev pub start : Walk
-start = record { at = 2; instruction = 0; row = 0; word = 0 }
+abbrev pub start : Spot
+start = record { at = 2; first = 0; operand = 0; word = 0 }
 
 -- all instructions, to the end
 abbrev pub Finished : List ℕ → List ℕ → List ℕ → List ℕ → List ℕ → Type 0
@@ -37,6 +49,7 @@ Finished is rs ws out out′ = (final : List ℕ) → Left is rs ws start out fi
 
 -- the instructions of a chunk of so many dwords are confirmed, and there is room for it
 pub record Whole (is rs ws : List ℕ) (dwords n ceiling : ℕ) (model51 : Bool) (list : List Instruction) : Type 0 where
+  pub whole : WholeRows (length is)
   pub confirmed : confirmAll ceiling model51 (length is / 16) 8 is rs ws 0 0 ≡ just list
   pub dwords-are : dwords ≡ 2 + length (allDwords list)
   pub fits : dwords < 2 ^ 32

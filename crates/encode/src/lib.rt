@@ -8,7 +8,15 @@ use format::Encoded;
 use format::Refusal;
 use operand_emit::put_dword;
 use reading::Read;
-use reading::Walk;
+
+// How far the writing has come: dwords of the chunk, the places where the rows of the next instruction and of its first operand
+// begin, and words.
+pub struct Spot {
+    pub at: usize,
+    pub first: usize,
+    pub operand: usize,
+    pub word: usize,
+}
 
 fn wide(x: u32) -> usize
     ensures { λ r. ⌜ r ≡ x ⌝ }
@@ -28,28 +36,28 @@ fn emit_next(
     instructions: &[u32],
     operands: &[u32],
     words: &[u32],
-    s: Walk,
+    s: Spot,
     output: &mut [u8],
-) -> Walk
-    requires { ⌜ (s .instruction < length (now instructions) / 16) × w.Going (now instructions) (now operands) (now words) s (now output) ⌝ }
+) -> Spot
+    requires { ⌜ (s .first < length (now instructions)) × w.Going (now instructions) (now operands) (now words) s (now output) ⌝ }
     ensures { λ t. ⌜ w.Toward (now (instructions .entry)) (now (operands .entry)) (now (words .entry)) s (now (output .entry)) t (now (output .exit)) ⌝ }
 {
-    let first = s.instruction * 16;
+    let first = s.first;
     let end = s.word + wide(instructions[first + 15]);
     let x = instruction_emit::emit(
         instructions,
         first,
         operands,
-        s.row,
+        s.operand,
         &words[0..end],
         s.word,
         output,
         s.at,
     );
-    Walk {
+    Spot {
         at: x.at,
-        instruction: s.instruction + 1,
-        row: x.row,
+        first: first + 16,
+        operand: x.operand,
         word: end,
     }
 }
@@ -59,14 +67,13 @@ fn emit_all(instructions: &[u32], operands: &[u32], words: &[u32], output: &mut 
     requires { ⌜ w.Going (now instructions) (now operands) (now words) w.start (now output) ⌝ }
     ensures { λ _. ⌜ w.Finished (now (instructions .entry)) (now (operands .entry)) (now (words .entry)) (now (output .entry)) (now (output .exit)) ⌝ }
 {
-    let n = instructions.len() / 16;
-    let mut s = Walk {
+    let mut s = Spot {
         at: 2,
-        instruction: 0,
-        row: 0,
+        first: 0,
+        operand: 0,
         word: 0,
     };
-    while s.instruction < n {
+    while s.first < instructions.len() {
         s = emit_next(instructions, operands, words, s, output);
     }
 }

@@ -1,5 +1,5 @@
 -- Laws of emitting the parts of an instruction, and all of it.
-use Prim.Native.Nat.{ℕ, suc, _+_, _-_, _*_, _^_, _<_, _≤_}
+use Prim.Native.Nat.{ℕ, suc, _+_, _-_, _*_, _/_, _^_, _<_, _≤_}
 use mathlib.Core.Path.{_≡_, refl, sym, ap, _∙_}
 use mathlib.Core.Bool.{Bool, true}
 use mathlib.Core.List.{List, [], _∷_, _++_, append-assoc, append-nil}
@@ -17,16 +17,16 @@ use Rattle.format.specs.Instructions.{Instruction, unread, pieces, dwords}
 use Rattle.format.specs.Rows.{treeRows, treeWords, partsRows, partsWords, topLevel, parts}
 use Rattle.format.specs.Encoder.{at, tokenOfRow, headOfRow}
 use Rattle.operand_walk.specs.Confirm.{confirm, behind}
-use Rattle.operand_walk.specs.Walks.{there}
 use Rattle.operand_walk.proofs.Every.{met, every-then, every-of}
 use Rattle.operand_walk.proofs.Fields.{row-at}
-use Rattle.operand_emit.specs.Emits as operand
-use Rattle.operand_emit.specs.Emits.{put, treeIn, Headed}
+use Rattle.operand_emit.specs.Emits as emits
+use Rattle.operand_emit.specs.Emits.{put, rowFrom, standing, treeIn, Headed}
 use Rattle.operand_emit.specs.declared.Ends as operand-ends
 use Rattle.operand_emit.proofs.Puts.{dwords-length, dwords-none, dwords-more}
+use Rattle.operand_emit.proofs.Trees.{number-behind}
 use Rattle.instruction_emit.specs.declared.Ends.{Ends}
 use Rattle.instruction_emit.specs.declared.Place.{Place}
-use Rattle.instruction_emit.specs.Emits.{Is, Ready, Emitted, rowFrom, Fits, headOf, HeadReady, Bare, before, leadOf, frontOf, FrontReady, Fronted, confirmRun, runAt, treesIn, RunReady, Ran, rest, PartsReady, Parted}
+use Rattle.instruction_emit.specs.Emits.{Is, Ready, Emitted, Fits, headOf, HeadReady, Bare, before, leadOf, frontOf, FrontReady, Fronted, confirmRun, runAt, treesIn, RunReady, Ran, rest, PartsReady, Parted}
 use Rattle.instruction_emit.proofs.Heads.{plain-room, headed-plain, is-one, bare-low, bare-bits, bare-53, bare-120}
 use Rattle.instruction_emit.proofs.Items.{every-is}
 use Rattle.instruction_emit.proofs.Opened.{Known, Opened, words-alone, known, opened}
@@ -35,24 +35,23 @@ use Rattle.instruction_emit.proofs.Opened.{Known, Opened, words-alone, 
 record First (n : ℕ) (rs ws : List ℕ) (r w : ℕ) (xs : List Tree) : Type 0 where
   tree : Tree
   more : List Tree
-  one : there (confirm 64) rs ws r w ≡ just tree
-  others : runAt n rs ws (r + treeRows tree) (w + length (treeWords tree)) ≡ just more
+  one : standing (confirm 64) rs ws r w ≡ just tree
+  others : runAt n rs ws (r + 16 * treeRows tree) (w + length (treeWords tree)) ≡ just more
   all : xs ≡ tree ∷ more
 
 first-of : (n : ℕ) (rs ws : List ℕ) (r w : ℕ) (xs : List Tree) → runAt (suc n) rs ws r w ≡ just xs → First n rs ws r w xs
 unfolding confirmRun
 first-of n rs ws r w xs e = every-of {P = First n rs ws r w} e (
-    every-then (every-is (there (confirm 64) rs ws r w)) (λ x p.
-    every-then (every-is (behind x (confirmRun n) (drop (16 * r) rs) (drop w ws) r w)) (λ more k.
+    every-then (every-is (standing (confirm 64) rs ws r w)) (λ x p.
+    every-then (every-is (behind x (confirmRun n) (drop r rs) (drop w ws) (r / 16) w)) (λ more k.
     met (
     record {
       tree = x;
       more = more;
       one = p;
       others =
-          let m : 16 * r + 16 * treeRows x ≡ 16 * (r + treeRows x) = omega arith in
-          let e₁ : drop (16 * treeRows x) (drop (16 * r) rs) ≡ drop (16 * (r + treeRows x)) rs = drop-drop (16 * treeRows x) (16 * r) rs ∙ ap (λ (n : ℕ). drop n rs) m in
-          rw (e₁, drop-drop (length (treeWords x)) w ws) at k;
+          let e₁ : drop (16 * treeRows x) (drop r rs) ≡ drop (r + 16 * treeRows x) rs = drop-drop (16 * treeRows x) r rs in
+          rw (number-behind r (treeRows x) (r + 16 * treeRows x) refl) (rw (e₁, drop-drop (length (treeWords x)) w ws) at k);
       all = refl;
     }
     )))
@@ -63,37 +62,37 @@ unfolding confirmRun
 none-left rs ws r w xs e = cc
 
 -- what holds at the loop's head: written behind what stands there, the dwords of the operands left make up all
-pub record Running (rs ws : List ℕ) (row word count place : ℕ) (out₀ : List ℕ) (x : operand-ends.Ends) (i : ℕ) (out : List ℕ) : Type 0 where
-  pub ready : RunReady (runAt count rs ws row word) place (length out₀)
+pub record Running (rs ws : List ℕ) (operand word count place : ℕ) (out₀ : List ℕ) (x : operand-ends.Ends) (i : ℕ) (out : List ℕ) : Type 0 where
+  pub ready : RunReady (runAt count rs ws operand word) place (length out₀)
   pub left : List Tree
   pub turn : i ≤ count
-  pub run : runAt (count - i) rs ws (x .row) (x .word) ≡ just left
-  pub row-is : x .row + partsRows left ≡ row + partsRows (ready .trees)
+  pub run : runAt (count - i) rs ws (x .first) (x .word) ≡ just left
+  pub first-is : x .first + 16 * partsRows left ≡ operand + 16 * partsRows (ready .trees)
   pub word-is : x .word + length (partsWords left) ≡ word + length (partsWords (ready .trees))
   pub at-is : x .at + length (op.partsDwords left) ≡ place + length (op.partsDwords (ready .trees))
   pub is : put (4 * x .at) (bytesOf (op.partsDwords left)) out ≡ put (4 * place) (bytesOf (op.partsDwords (ready .trees))) out₀
   pub long : length out ≡ length out₀
 
-module _ (rs ws : List ℕ) (row word count place : ℕ) (out₀ : List ℕ) where
-  pub begin : RunReady (runAt count rs ws row word) place (length out₀) → Running rs ws row word count place out₀ (record { row = row; word = word; at = place }) 0 out₀
+module _ (rs ws : List ℕ) (operand word count place : ℕ) (out₀ : List ℕ) where
+  pub begin : RunReady (runAt count rs ws operand word) place (length out₀) → Running rs ws operand word count place out₀ (record { first = operand; word = word; at = place }) 0 out₀
   begin g = record {
     ready = g;
     left = g .trees;
     turn = omega arith;
     run = let e : count - 0 ≡ count = omega arith in rw e (g .is);
-    row-is = refl;
+    first-is = refl;
     word-is = refl;
     at-is = refl;
     is = refl;
     long = refl;
   }
 
-  module _ {x : operand-ends.Ends} {i : ℕ} {out : List ℕ} (g : Running rs ws row word count place out₀ x i out) where
+  module _ {x : operand-ends.Ends} {i : ℕ} {out : List ℕ} (g : Running rs ws operand word count place out₀ x i out) where
     module _ (h : i < count) where
-      head : First (count - (i + 1)) rs ws (x .row) (x .word) (g .left)
+      head : First (count - (i + 1)) rs ws (x .first) (x .word) (g .left)
       head =
           let e : count - i ≡ suc (count - (i + 1)) = omega arith in
-          first-of (count - (i + 1)) rs ws (x .row) (x .word) (g .left) (rw e at (g .run))
+          first-of (count - (i + 1)) rs ws (x .first) (x .word) (g .left) (rw e at (g .run))
 
       abbrev t : Tree
       t = head .tree
@@ -114,13 +113,13 @@ module _ (rs ws : List ℕ) (row word count place : ℕ) (out₀ : List ℕ) whe
       room : 4 * (x .at + length (op.dwords t)) ≤ length out
       room = omega (arith, g .ready .room, g .at-is, g .long, ap length (sizes .dwords), length-append (op.dwords t) (op.partsDwords (head .more)))
 
-      pub turn-ready : operand.Ready (there (confirm 64) rs ws (x .row) (x .word)) (x .at) (length out)
+      pub turn-ready : emits.Ready (standing (confirm 64) rs ws (x .first) (x .word)) (x .at) (length out)
       turn-ready = record { tree = t; is = head .one; room = room }
 
-      pub turns : {y : operand-ends.Ends} {out′ : List ℕ} → operand.Emitted (there (confirm 64) rs ws (x .row) (x .word)) (x .row) (x .word) (x .at) out y out′ → Running rs ws row word count place out₀ y (i + 1) out′
+      pub turns : {y : operand-ends.Ends} {out′ : List ℕ} → emits.Emitted (standing (confirm 64) rs ws (x .first) (x .word)) (x .first) (x .word) (x .at) out y out′ → Running rs ws operand word count place out₀ y (i + 1) out′
       turns {y} {out′} k =
-          let z : treeIn (there (confirm 64) rs ws (x .row) (x .word)) ≡ t = ap treeIn (head .one) in
-          let er : y .row ≡ x .row + treeRows t = rw z at (k .row-is) in
+          let z : treeIn (standing (confirm 64) rs ws (x .first) (x .word)) ≡ t = ap treeIn (head .one) in
+          let er : y .first ≡ x .first + 16 * treeRows t = rw z at (k .first-is) in
           let ew : y .word ≡ x .word + length (treeWords t) = rw z at (k .word-is) in
           let ea : y .at ≡ x .at + length (op.dwords t) = rw z at (k .at-is) in
           let eo : out′ ≡ put (4 * x .at) (bytesOf (op.dwords t)) out = rw z at (k .output-is) in
@@ -129,22 +128,22 @@ module _ (rs ws : List ℕ) (row word count place : ℕ) (out₀ : List ℕ) whe
             left = head .more;
             turn = omega arith;
             run = rw (er, ew) (head .others);
-            row-is = omega (arith, er, g .row-is, sizes .rows);
+            first-is = omega (arith, er, g .first-is, sizes .rows);
             word-is = omega (arith, ew, g .word-is, sizes .words);
             at-is = omega (arith, ea, g .at-is, ap length (sizes .dwords), length-append (op.dwords t) (op.partsDwords (head .more)));
             is = dwords-more (x .at) (y .at) (op.dwords t) (op.partsDwords (head .more)) out room ea eo refl ∙ ap (λ (l : List ℕ). put (4 * x .at) (bytesOf l) out) (sym (sizes .dwords)) ∙ g .is;
             long = ap length eo ∙ dwords-length (x .at) (op.dwords t) out room ∙ g .long;
           }
 
-    pub ended : count ≤ i → Ran (runAt count rs ws row word) row word place out₀ x out
+    pub ended : count ≤ i → Ran (runAt count rs ws operand word) operand word place out₀ x out
     unfolding partsRows partsWords op.partsDwords
     ended h =
         let z : count - i ≡ 0 = omega (arith, g .turn) in
-        let e : [] ≡ g .left = none-left rs ws (x .row) (x .word) (g .left) (rw z at (g .run)) in
-        let a : treesIn (runAt count rs ws row word) ≡ g .ready .trees = ap treesIn (g .ready .is) in
+        let e : [] ≡ g .left = none-left rs ws (x .first) (x .word) (g .left) (rw z at (g .run)) in
+        let a : treesIn (runAt count rs ws operand word) ≡ g .ready .trees = ap treesIn (g .ready .is) in
         record {
           output-is = dwords-none (x .at) out ∙ ap (λ (l : List Tree). put (4 * x .at) (bytesOf (op.partsDwords l)) out) e ∙ g .is ∙ ap (λ (l : List Tree). put (4 * place) (bytesOf (op.partsDwords l)) out₀) (sym a);
-          row-is = omega (arith, g .row-is, ap partsRows e, ap partsRows a);
+          first-is = omega (arith, g .first-is, ap partsRows e, ap partsRows a);
           word-is = omega (arith, g .word-is, ap (λ (l : List Tree). length (partsWords l)) e, ap (λ (l : List Tree). length (partsWords l)) a);
           at-is = omega (arith, g .at-is, ap (λ (l : List Tree). length (op.partsDwords l)) e, ap (λ (l : List Tree). length (op.partsDwords l)) a);
         }
@@ -246,9 +245,9 @@ rest-length ws xs h =
     let l : List ℕ = drop (length (partsWords xs)) ws in
     omega (arith, length-append (op.partsDwords xs) l, length-drop (length (partsWords xs)) ws)
 
-module _ (count place row word : ℕ) (rs ws out : List ℕ) (h : word ≤ length ws) (ready : PartsReady (runAt count rs ws row word) (drop word ws) place (length out)) where
+module _ (count place operand word : ℕ) (rs ws out : List ℕ) (h : word ≤ length ws) (ready : PartsReady (runAt count rs ws operand word) (drop word ws) place (length out)) where
   abbrev o : Option (List Tree)
-  o = runAt count rs ws row word
+  o = runAt count rs ws operand word
 
   there-are : (word + length (partsWords (ready .trees)) ≤ length ws) × (4 * (place + (length (op.partsDwords (ready .trees)) + (length ws - (word + length (partsWords (ready .trees)))))) ≤ length out)
   there-are = (
@@ -259,7 +258,7 @@ module _ (count place row word : ℕ) (rs ws out : List ℕ) (h : word ≤ lengt
   pub run-ready : RunReady o place (length out)
   run-ready = record { trees = ready .trees; is = ready .is; room = omega (arith, there-are .1) }
 
-  module _ {x : operand-ends.Ends} {out₁ : List ℕ} (r : Ran o row word place out x out₁) where
+  module _ {x : operand-ends.Ends} {out₁ : List ℕ} (r : Ran o operand word place out x out₁) where
     trees-are : treesIn o ≡ ready .trees
     trees-are = ap treesIn (ready .is)
 
@@ -279,7 +278,7 @@ module _ (count place row word : ℕ) (rs ws out : List ℕ) (h : word ≤ lengt
     left-is = take-all (length ws - x .word) (drop (x .word) ws) (omega (arith, length-drop (x .word) ws)) ∙ ap (λ (n : ℕ). drop n ws) word-is ∙ sym (drop-drop (length (partsWords (ready .trees))) word ws)
 
     pub parted : {out₂ : List ℕ} → out₂ ≡ put (4 * x .at) (bytesOf (take (length ws - x .word) (drop (x .word) ws))) out₁ →
-        Parted o (drop word ws) row place out (record { row = x .row; at = x .at + (length ws - x .word) }) out₂
+        Parted o (drop word ws) operand place out (record { operand = x .first; at = x .at + (length ws - x .word) }) out₂
     parted {out₂} e₂ =
         let t : List Tree = ready .trees in
         let b : List ℕ = op.partsDwords t in
@@ -289,12 +288,12 @@ module _ (count place row word : ℕ) (rs ws out : List ℕ) (h : word ≤ lengt
         let f : out₂ ≡ put (4 * place) (bytesOf (b ++ l)) out = dwords-more place (x .at) b l out (omega (arith, there-are .1)) at-is f₁ f₂ in
         record {
           output-is = f ∙ ap (λ (y : List Tree). put (4 * place) (bytesOf (rest (drop word ws) y)) out) (sym trees-are);
-          row-is = r .row-is;
+          operand-is = r .first-is;
           at-is = omega (arith, at-is, word-is, there-are .0, length-drop word ws, rest-length (drop word ws) t (ready .words-there), ap (λ (y : List Tree). length (rest (drop word ws) y)) trees-are);
         }
 
 -- ---- all of an instruction
-module _ (is : List ℕ) (first : ℕ) (rs ws : List ℕ) (row word place : ℕ) (out : List ℕ) (h : word ≤ length ws) where
+module _ (is : List ℕ) (first : ℕ) (rs ws : List ℕ) (operand word place : ℕ) (out : List ℕ) (h : word ≤ length ws) where
   abbrev q : List ℕ
   q = rowFrom first is
 
@@ -304,7 +303,7 @@ module _ (is : List ℕ) (first : ℕ) (rs ws : List ℕ) (row word place : ℕ)
   -- what stands in front, operands, and the words left
   record Laid (i : Instruction) : Type 0 where
     trees : List Tree
-    run : runAt (number 13) rs ws row (word + leadOf q) ≡ just trees
+    run : runAt (number 13) rs ws operand (word + leadOf q) ≡ just trees
     lead-there : word + leadOf q ≤ length ws
     words-there : length (partsWords trees) ≤ length (drop (word + leadOf q) ws)
     dwords-are : dwords i ≡ frontOf q (drop word ws) ++ rest (drop (word + leadOf q) ws) trees
@@ -319,7 +318,7 @@ module _ (is : List ℕ) (first : ℕ) (rs ws : List ℕ) (row word place : ℕ)
       let f : frontOf q (drop word ws) ≡ [] = rw (eq-eqb (at 3 q) 0 e) in
       record { trees = []; run = rw c; lead-there = rw w h; words-there = omega arith; dwords-are = rw (f, w); rows-are = omega arith }
 
-  laid-pieces : (ps : List Tree) → Known q (drop (16 * row) rs) (drop word ws) row word ps → Laid (pieces (tokenOfRow q) (headOfRow q) ps)
+  laid-pieces : (ps : List Tree) → Known q (drop operand rs) (drop word ws) (operand / 16) word ps → Laid (pieces (tokenOfRow q) (headOfRow q) ps)
   unfolding dwords parts
   laid-pieces ps e =
       let k : ℕ = before (at 2 q) in
@@ -339,13 +338,13 @@ module _ (is : List ℕ) (first : ℕ) (rs ws : List ℕ) (row word place : ℕ)
         rows-are = a .rows-are;
       }
 
-  laid : {i : Instruction} → Opened q (drop (16 * row) rs) (drop word ws) row word i → Laid i
+  laid : {i : Instruction} → Opened q (drop operand rs) (drop word ws) (operand / 16) word i → Laid i
   laid (words-alone e n) = laid-words e n
   laid (known {ps = ps} e) = laid-pieces ps e
 
-  module _ (g : Ready q (drop (16 * row) rs) (drop word ws) row word place (length out)) where
-    open-is : (i : Instruction) → Is q (drop (16 * row) rs) (drop word ws) row word i → Opened q (drop (16 * row) rs) (drop word ws) row word i
-    open-is i k = opened q (drop (16 * row) rs) (drop word ws) row word i (g .words-are) k
+  module _ (g : Ready q (drop operand rs) (drop word ws) operand word place (length out)) where
+    open-is : (i : Instruction) → Is q (drop operand rs) (drop word ws) operand word i → Opened q (drop operand rs) (drop word ws) (operand / 16) word i
+    open-is i k = opened q (drop operand rs) (drop word ws) operand word i (g .words-are) k
 
     all : Laid (g .instruction)
     all = laid (open-is (g .instruction) (g .is))
@@ -353,7 +352,7 @@ module _ (is : List ℕ) (first : ℕ) (rs ws : List ℕ) (row word place : ℕ)
     all-length : length (dwords (g .instruction)) ≡ length (frontOf q (drop word ws)) + length (rest (drop (word + leadOf q) ws) (all .trees))
     all-length = ap length (all .dwords-are) ∙ length-append (frontOf q (drop word ws)) (rest (drop (word + leadOf q) ws) (all .trees))
 
-    fits-of : {i : Instruction} → Opened q (drop (16 * row) rs) (drop word ws) row word i → (at 3 q ≡ 0 → ⊥) → Fits q
+    fits-of : {i : Instruction} → Opened q (drop operand rs) (drop word ws) (operand / 16) word i → (at 3 q ≡ 0 → ⊥) → Fits q
     fits-of (words-alone e n) z = absurd (z e)
     fits-of (known e) z = e .fits
 
@@ -378,7 +377,7 @@ module _ (is : List ℕ) (first : ℕ) (rs ws : List ℕ) (row word place : ℕ)
       pub front-within : f .word ≤ length ws
       front-within = omega (arith, d .word-is, all .lead-there)
 
-      pub parts-ready : length out₁ ≡ length out → PartsReady (runAt (number 13) rs ws row (f .word)) (drop (f .word) ws) (f .at) (length out₁)
+      pub parts-ready : length out₁ ≡ length out → PartsReady (runAt (number 13) rs ws operand (f .word)) (drop (f .word) ws) (f .at) (length out₁)
       parts-ready n = rw (d .word-is) (record {
         trees = all .trees;
         is = all .run;
@@ -386,16 +385,16 @@ module _ (is : List ℕ) (first : ℕ) (rs ws : List ℕ) (row word place : ℕ)
         room = omega (arith, g .room, all-length, d .headed .next-is);
       })
 
-      pub parts-emitted : {ends : Ends} {out₂ : List ℕ} → Parted (runAt (number 13) rs ws row (f .word)) (drop (f .word) ws) row (f .at) out₁ ends out₂ → Emitted q (drop (16 * row) rs) (drop word ws) row word place out ends out₂
+      pub parts-emitted : {ends : Ends} {out₂ : List ℕ} → Parted (runAt (number 13) rs ws operand (f .word)) (drop (f .word) ws) operand (f .at) out₁ ends out₂ → Emitted q (drop operand rs) (drop word ws) operand word place out ends out₂
       parts-emitted {ends} {out₂} p₀ i y =
-          let p : Parted (runAt (number 13) rs ws row (word + leadOf q)) (drop (word + leadOf q) ws) row (f .at) out₁ ends out₂ = rw (d .word-is) at p₀ in
+          let p : Parted (runAt (number 13) rs ws operand (word + leadOf q)) (drop (word + leadOf q) ws) operand (f .at) out₁ ends out₂ = rw (d .word-is) at p₀ in
           let b = laid (open-is i y) in
           let x : List ℕ = frontOf q (drop word ws) in
           let l : List ℕ = rest (drop (word + leadOf q) ws) (b .trees) in
-          let t : treesIn (runAt (number 13) rs ws row (word + leadOf q)) ≡ b .trees = ap treesIn (b .run) in
+          let t : treesIn (runAt (number 13) rs ws operand (word + leadOf q)) ≡ b .trees = ap treesIn (b .run) in
           let e : out₂ ≡ put (4 * f .at) (bytesOf l) out₁ = rw t at (p .output-is) in
           record {
             output-is = dwords-more place (f .at) x l out (omega (arith, g .room, all-length)) (d .headed .next-is) (d .headed .output-is) e ∙ ap (λ (k : List ℕ). put (4 * place) (bytesOf k) out) (sym (b .dwords-are));
-            row-is = omega (arith, p .row-is, ap partsRows t, b .rows-are);
+            operand-is = omega (arith, p .operand-is, ap partsRows t, b .rows-are);
             at-is = omega (arith, p .at-is, d .headed .next-is, ap (λ (k : List Tree). length (rest (drop (word + leadOf q) ws) k)) t, ap length (b .dwords-are), length-append x l);
           }

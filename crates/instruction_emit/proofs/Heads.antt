@@ -13,9 +13,9 @@ use Rattle.format.specs.Declarations.{inTable, layout, chained}
 use Rattle.format.specs.Encoder.{at, chainOf, sizedRow, tokenOfRow, headOfRow}
 use Rattle.format.proofs.Dwords.{impossible}
 use Rattle.operand_walk.proofs.Fields.{row-at}
-use Rattle.operand_emit.specs.Emits.{put, Headed}
+use Rattle.operand_emit.specs.Emits.{put, rowFrom, Headed}
 use Rattle.operand_emit.proofs.Puts.{dwords-none, dwords-more}
-use Rattle.instruction_emit.specs.Emits.{rowFrom, packed, lowOf, sizedBy, Fits, headOf, HeadReady, Bare}
+use Rattle.instruction_emit.specs.Emits.{packed, lowOf, sizedBy, Fits, headOf, HeadReady, Bare}
 
 -- ---- bit 31
 pub follows-none : (n : ℕ) → n ≡ 0 → 0 ≡ cond (ltb 0 n) 1 0 * 2 ^ 31

@@ -1,5 +1,5 @@
 -- What a confirmed instruction is made of: words alone; or a token, what stands after it, and parts.
-use Prim.Native.Nat.{ℕ, _+_, _*_, _-_, _^_, _<_, _≤_}
+use Prim.Native.Nat.{ℕ, _+_, _*_, _-_, _/_, _^_, _<_, _≤_}
 use mathlib.Core.Path.{_≡_, refl, sym, ap, _∙_}
 use mathlib.Core.Bool.{Bool, true, false, cond, _&&_, _||_}
 use mathlib.Core.List.{List, [], _∷_}
@@ -138,7 +138,7 @@ open-shown place r w q rs ws (read {ps = ps} h f) s e =
     )
 
 -- what is confirmed, opened
-pub opened : (q rs ws : List ℕ) (r w : ℕ) (i : Instruction) → length ws ≡ at 15 q → Is q rs ws r w i → Opened q rs ws r w i
-opened q rs ws r w i n k =
-    let s = sound (k .ceiling) (k .model51) q (k .place) rs ws r w i n (k .confirmed) in
-    open-shown (k .place) r w q rs ws (every-of (k .confirmed) (shown q (k .place) rs ws r w (k .ceiling) (k .model51))) (s .row) (s .words)
+pub opened : (q rs ws : List ℕ) (o w : ℕ) (i : Instruction) → length ws ≡ at 15 q → Is q rs ws o w i → Opened q rs ws (o / 16) w i
+opened q rs ws o w i n k =
+    let s = sound (k .ceiling) (k .model51) q (k .place) rs ws (o / 16) w i n (k .confirmed) in
+    open-shown (k .place) (o / 16) w q rs ws (every-of (k .confirmed) (shown q (k .place) rs ws (o / 16) w (k .ceiling) (k .model51))) (s .row) (s .words)

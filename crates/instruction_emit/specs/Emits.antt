@@ -1,5 +1,5 @@
 -- What is written of an instruction whose row, operand rows and words were confirmed: the bytes of its dwords.
-use Prim.Native.Nat.{ℕ, zero, suc, _+_, _*_, _^_, _<_, _≤_}
+use Prim.Native.Nat.{ℕ, zero, suc, _+_, _*_, _/_, _^_, _<_, _≤_}
 use mathlib.Core.Path.{_≡_}
 use mathlib.Core.Bool.{Bool, true, false, cond, _&&_, _||_}
 use mathlib.Core.List.{List, [], _∷_, _++_}
@@ -15,40 +15,37 @@ use Rattle.format.specs.Rows.{partsRows, partsWords, parts}
 use Rattle.format.specs.Encoder.{at, sizedRow, tokenOfRow, headOfRow}
 use Rattle.operand_walk.specs.Confirm.{Confirms, _>>=_, behind, confirm}
 use Rattle.operand_emit.specs.Emits.{put, Headed}
-use Rattle.operand_emit.specs.declared.Ends as operand
+use Rattle.operand_emit.specs.declared.Ends as operand-ends
 use Rattle.instruction_walk.specs.Confirm.{confirmInstruction}
 use Rattle.instruction_emit.specs.declared.Ends.{Ends}
 use Rattle.instruction_emit.specs.declared.Place.{Place}
 
--- the row q, operand rows and words are confirmed to be those of an instruction: under some ceiling, in some model, at some place
-pub record Is (q rs ws : List ℕ) (row word : ℕ) (i : Instruction) : Type 0 where
+-- the row q, operand rows and words are confirmed to be those of an instruction: under some ceiling, in some model, at some
+-- place; the number of the first operand row is the 16th part of the place where it begins
+pub record Is (q rs ws : List ℕ) (operand word : ℕ) (i : Instruction) : Type 0 where
   pub ceiling : ℕ
   pub model51 : Bool
   pub place : ℕ
-  pub confirmed : confirmInstruction ceiling model51 q place rs ws row word ≡ just i
+  pub confirmed : confirmInstruction ceiling model51 q place rs ws (operand / 16) word ≡ just i
 
 -- there is an instruction, no other words, and room for its dwords from a dword on in an output of so many bytes
-pub record Ready (q rs ws : List ℕ) (row word place n : ℕ) : Type 0 where
+pub record Ready (q rs ws : List ℕ) (operand word place n : ℕ) : Type 0 where
   pub instruction : Instruction
-  pub is : Is q rs ws row word instruction
+  pub is : Is q rs ws operand word instruction
   pub words-are : length ws ≡ at 15 q
   pub room : 4 * (place + length (dwords instruction)) ≤ n
 
--- the dwords of an instruction stand there; what is behind it: an operand row, and a dword of the output
-pub record Stands (i : Instruction) (row place : ℕ) (out : List ℕ) (ends : Ends) (out′ : List ℕ) : Type 0 where
+-- the dwords of an instruction stand there; what is behind it: a place where an operand row begins, and a dword of the output
+pub record Stands (i : Instruction) (operand place : ℕ) (out : List ℕ) (ends : Ends) (out′ : List ℕ) : Type 0 where
   pub output-is : out′ ≡ put (4 * place) (bytesOf (dwords i)) out
-  pub row-is : ends .row ≡ row + partsRows (parts i)
+  pub operand-is : ends .operand ≡ operand + 16 * partsRows (parts i)
   pub at-is : ends .at ≡ place + length (dwords i)
 
 -- those of the instruction whose row, operand rows and words these are
 abbrev pub Emitted : List ℕ → List ℕ → List ℕ → ℕ → ℕ → ℕ → List ℕ → Ends → List ℕ → Type 0
-Emitted q rs ws row word place out ends out′ = (i : Instruction) → Is q rs ws row word i → Stands i row place out ends out′
+Emitted q rs ws operand word place out ends out′ = (i : Instruction) → Is q rs ws operand word i → Stands i operand place out ends out′
 
 -- ---- the token, and what stands after it
--- the row from a place on
-abbrev pub rowFrom : ℕ → List ℕ → List ℕ
-rowFrom first is = take 16 (drop first is)
-
 -- a token of code, field, saturate, test and precise, without a length and bit 31
 abbrev pub packed : ℕ → ℕ → ℕ → ℕ → ℕ → ℕ
 packed code field saturate test precise = code + field * 2 ^ 11 + saturate * 2 ^ 13 + test * 2 ^ 18 + precise * 2 ^ 19
@@ -115,9 +112,9 @@ confirmRun (suc n) rs ws r w = do
   xs ← behind x (confirmRun n) rs ws r w
   just (x ∷ xs)
 
--- those at row r and word w of two pools
+-- those of two pools from a row that begins at a place, and from a word on
 abbrev pub runAt : ℕ → List ℕ → List ℕ → ℕ → ℕ → Option (List Tree)
-runAt n rs ws r w = confirmRun n (drop (16 * r) rs) (drop w ws) r w
+runAt n rs ws operand w = confirmRun n (drop operand rs) (drop w ws) (operand / 16) w
 
 abbrev pub treesIn : Option (List Tree) → List Tree
 treesIn nothing = []
@@ -130,9 +127,9 @@ pub record RunReady (o : Option (List Tree)) (place n : ℕ) : Type 0 where
   pub room : 4 * (place + length (op.partsDwords trees)) ≤ n
 
 -- their dwords stand there
-pub record Ran (o : Option (List Tree)) (row word place : ℕ) (out : List ℕ) (ends : operand.Ends) (out′ : List ℕ) : Type 0 where
+pub record Ran (o : Option (List Tree)) (operand word place : ℕ) (out : List ℕ) (ends : operand-ends.Ends) (out′ : List ℕ) : Type 0 where
   pub output-is : out′ ≡ put (4 * place) (bytesOf (op.partsDwords (treesIn o))) out
-  pub row-is : ends .row ≡ row + partsRows (treesIn o)
+  pub first-is : ends .first ≡ operand + 16 * partsRows (treesIn o)
   pub word-is : ends .word ≡ word + length (partsWords (treesIn o))
   pub at-is : ends .at ≡ place + length (op.partsDwords (treesIn o))
 
@@ -148,7 +145,7 @@ pub record PartsReady (o : Option (List Tree)) (ws : List ℕ) (place n : ℕ) :
   pub room : 4 * (place + length (rest ws trees)) ≤ n
 
 -- all dwords stand there
-pub record Parted (o : Option (List Tree)) (ws : List ℕ) (row place : ℕ) (out : List ℕ) (ends : Ends) (out′ : List ℕ) : Type 0 where
+pub record Parted (o : Option (List Tree)) (ws : List ℕ) (operand place : ℕ) (out : List ℕ) (ends : Ends) (out′ : List ℕ) : Type 0 where
   pub output-is : out′ ≡ put (4 * place) (bytesOf (rest ws (treesIn o))) out
-  pub row-is : ends .row ≡ row + partsRows (treesIn o)
+  pub operand-is : ends .operand ≡ operand + 16 * partsRows (treesIn o)
   pub at-is : ends .at ≡ place + length (rest ws (treesIn o))

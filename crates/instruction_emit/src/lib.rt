@@ -7,15 +7,15 @@ ghost use lib.ListN.{length, take, drop};
 ghost use lib.Dec.{ltb};
 ghost use Rattle.format.specs.Dwords.{bytesOf};
 ghost use Rattle.format.specs.Encoder as e;
-ghost use Rattle.operand_emit.specs.Emits.{put, Headed};
+ghost use Rattle.operand_emit.specs.Emits.{put, rowFrom, Headed};
 ghost use Rattle.instruction_emit.specs.Emits as w;
 use operand_emit::copy;
 use operand_emit::put_dword;
 use operand_walk::pair;
 
-// The operand row and the dword of the output behind what was written.
+// The place where the operand row behind what was written begins, and the dword of the output behind it.
 pub struct Ends {
-    pub row: usize,
+    pub operand: usize,
     pub at: usize,
 }
 
@@ -35,8 +35,8 @@ fn pack(code: u32, field: u32, saturate: u32, test: u32, precise: u32) -> u32
 
 // Makes a token from the row at a place, but for its length and bit 31.
 fn low(instructions: &[u32], first: usize) -> u32
-    requires { ⌜ (first + 16 ≤ length (now instructions)) × (w.lowOf (w.rowFrom first (now instructions)) < 2 ^ 32) ⌝ }
-    ensures { λ r. ⌜ r ≡ w.lowOf (w.rowFrom first (now (instructions .entry))) ⌝ }
+    requires { ⌜ (first + 16 ≤ length (now instructions)) × (w.lowOf (rowFrom first (now instructions)) < 2 ^ 32) ⌝ }
+    ensures { λ r. ⌜ r ≡ w.lowOf (rowFrom first (now (instructions .entry))) ⌝ }
 {
     pack(
         instructions[first + 2],
@@ -93,8 +93,8 @@ fn chain(bits: u32, offsets: u32, second: u32, third: u32, output: &mut [u8], at
 
 // Stores the token of a row that has bit 31 or a length dword, and what stands after it.
 fn long_head(instructions: &[u32], first: usize, low: u32, output: &mut [u8], at: usize) -> usize
-    requires { ⌜ (first + 16 ≤ length (now instructions)) × (low ≡ w.lowOf (w.rowFrom first (now instructions))) × w.HeadReady (w.rowFrom first (now instructions)) at (length (now output)) ⌝ }
-    ensures { λ r. ⌜ Headed (w.headOf (w.rowFrom first (now (instructions .entry)))) at (now (output .entry)) r (now (output .exit)) ⌝ }
+    requires { ⌜ (first + 16 ≤ length (now instructions)) × (low ≡ w.lowOf (rowFrom first (now instructions))) × w.HeadReady (rowFrom first (now instructions)) at (length (now output)) ⌝ }
+    ensures { λ r. ⌜ Headed (w.headOf (rowFrom first (now (instructions .entry)))) at (now (output .entry)) r (now (output .exit)) ⌝ }
 {
     let n = instructions[first + 1];
     let bits = instructions[first + 8];
@@ -120,8 +120,8 @@ fn long_head(instructions: &[u32], first: usize, low: u32, output: &mut [u8], at
 
 // Stores the token of a row, and what stands after it; gives the dword of the output behind them. Most have nothing after it.
 fn head(instructions: &[u32], first: usize, output: &mut [u8], at: usize) -> usize
-    requires { ⌜ (first + 16 ≤ length (now instructions)) × w.HeadReady (w.rowFrom first (now instructions)) at (length (now output)) ⌝ }
-    ensures { λ r. ⌜ Headed (w.headOf (w.rowFrom first (now (instructions .entry)))) at (now (output .entry)) r (now (output .exit)) ⌝ }
+    requires { ⌜ (first + 16 ≤ length (now instructions)) × w.HeadReady (rowFrom first (now instructions)) at (length (now output)) ⌝ }
+    ensures { λ r. ⌜ Headed (w.headOf (rowFrom first (now (instructions .entry)))) at (now (output .entry)) r (now (output .exit)) ⌝ }
 {
     let t = low(instructions, first);
     if instructions[first + 8] == 0 {
@@ -137,19 +137,23 @@ fn head(instructions: &[u32], first: usize, output: &mut [u8], at: usize) -> usi
 fn run(
     operands: &[u32],
     words: &[u32],
-    row: usize,
+    operand: usize,
     word: usize,
     count: u32,
     output: &mut [u8],
     at: usize,
 ) -> operand_emit::Ends
-    requires { ⌜ w.RunReady (w.runAt count (now operands) (now words) row word) at (length (now output)) ⌝ }
-    ensures { λ r. ⌜ w.Ran (w.runAt count (now (operands .entry)) (now (words .entry)) row word) row word at (now (output .entry)) r (now (output .exit)) ⌝ }
+    requires { ⌜ w.RunReady (w.runAt count (now operands) (now words) operand word) at (length (now output)) ⌝ }
+    ensures { λ r. ⌜ w.Ran (w.runAt count (now (operands .entry)) (now (words .entry)) operand word) operand word at (now (output .entry)) r (now (output .exit)) ⌝ }
 {
-    let mut x = operand_emit::Ends { row, word, at };
+    let mut x = operand_emit::Ends {
+        first: operand,
+        word,
+        at,
+    };
     let mut i = 0;
     while i < count {
-        x = operand_emit::emit(operands, words, x.row, x.word, 64, output, x.at);
+        x = operand_emit::emit(operands, words, x.first, x.word, 64, output, x.at);
         i += 1;
     }
     x
@@ -170,7 +174,7 @@ fn lead(code: u32, words: &[u32], word: usize, output: &mut [u8], at: usize) -> 
 // Tells whether a row is of kind 1 and its token has only a code and a length: most are. What fails most often is asked first.
 fn bare(instructions: &[u32], first: usize) -> bool
     requires { ⌜ first + 16 ≤ length (now instructions) ⌝ }
-    ensures { λ r. ⌜ w.Bare (w.rowFrom first (now (instructions .entry))) r ⌝ }
+    ensures { λ r. ⌜ w.Bare (rowFrom first (now (instructions .entry))) r ⌝ }
 {
     if pair(instructions[first + 7], instructions[first + 8]) != 0 {
         return false;
@@ -190,8 +194,8 @@ fn front(
     output: &mut [u8],
     at: usize,
 ) -> Place
-    requires { ⌜ (first + 16 ≤ length (now instructions)) × w.FrontReady (w.rowFrom first (now instructions)) (length (now words)) word at (length (now output)) ⌝ }
-    ensures { λ r. ⌜ w.Fronted (w.rowFrom first (now (instructions .entry))) (drop word (now (words .entry))) word at (now (output .entry)) r (now (output .exit)) ⌝ }
+    requires { ⌜ (first + 16 ≤ length (now instructions)) × w.FrontReady (rowFrom first (now instructions)) (length (now words)) word at (length (now output)) ⌝ }
+    ensures { λ r. ⌜ w.Fronted (rowFrom first (now (instructions .entry))) (drop word (now (words .entry))) word at (now (output .entry)) r (now (output .exit)) ⌝ }
 {
     if bare(instructions, first) {
         let t = instructions[first + 2] + instructions[first + 1] * 0x100_0000;
@@ -213,44 +217,44 @@ fn front(
 fn parts(
     operands: &[u32],
     words: &[u32],
-    row: usize,
+    operand: usize,
     word: usize,
     count: u32,
     output: &mut [u8],
     at: usize,
 ) -> Ends
-    requires { ⌜ (word ≤ length (now words)) × w.PartsReady (w.runAt count (now operands) (now words) row word) (drop word (now words)) at (length (now output)) ⌝ }
-    ensures { λ r. ⌜ w.Parted (w.runAt count (now (operands .entry)) (now (words .entry)) row word) (drop word (now (words .entry))) row at (now (output .entry)) r (now (output .exit)) ⌝ }
+    requires { ⌜ (word ≤ length (now words)) × w.PartsReady (w.runAt count (now operands) (now words) operand word) (drop word (now words)) at (length (now output)) ⌝ }
+    ensures { λ r. ⌜ w.Parted (w.runAt count (now (operands .entry)) (now (words .entry)) operand word) (drop word (now (words .entry))) operand at (now (output .entry)) r (now (output .exit)) ⌝ }
 {
-    let x = run(operands, words, row, word, count, output, at);
+    let x = run(operands, words, operand, word, count, output, at);
     let n = words.len() - x.word;
     copy(words, x.word, n, output, x.at);
     Ends {
-        row: x.row,
+        operand: x.first,
         at: x.at + n,
     }
 }
 
 // Writes the instruction that was confirmed, from a dword of the output on: its row stands at a place, its operands' rows from
-// a row on, and its words from a word on to the last.
+// another on, and its words from a word on to the last.
 pub fn emit(
     instructions: &[u32],
     first: usize,
     operands: &[u32],
-    row: usize,
+    operand: usize,
     words: &[u32],
     word: usize,
     output: &mut [u8],
     at: usize,
 ) -> Ends
-    requires { ⌜ (first + 16 ≤ length (now instructions)) × (word ≤ length (now words)) × w.Ready (w.rowFrom first (now instructions)) (drop (16 * row) (now operands)) (drop word (now words)) row word at (length (now output)) ⌝ }
-    ensures { λ r. ⌜ w.Emitted (w.rowFrom first (now (instructions .entry))) (drop (16 * row) (now (operands .entry))) (drop word (now (words .entry))) row word at (now (output .entry)) r (now (output .exit)) ⌝ }
+    requires { ⌜ (first + 16 ≤ length (now instructions)) × (word ≤ length (now words)) × w.Ready (rowFrom first (now instructions)) (drop operand (now operands)) (drop word (now words)) operand word at (length (now output)) ⌝ }
+    ensures { λ r. ⌜ w.Emitted (rowFrom first (now (instructions .entry))) (drop operand (now (operands .entry))) (drop word (now (words .entry))) operand word at (now (output .entry)) r (now (output .exit)) ⌝ }
 {
     let x = front(instructions, first, words, word, output, at);
     parts(
         operands,
         words,
-        row,
+        operand,
         x.word,
         instructions[first + 13],
         output,

@@ -1,5 +1,5 @@
 -- What is written of an operand whose rows and words were confirmed: the bytes of its dwords.
-use Prim.Native.Nat.{ℕ, _+_, _-_, _*_, _^_, _<_, _≤_}
+use Prim.Native.Nat.{ℕ, _+_, _-_, _*_, _/_, _^_, _<_, _≤_}
 use mathlib.Core.Path.{_≡_}
 use mathlib.Core.List.{List, [], _∷_, _++_}
 use mathlib.Core.Option.{Option, none as nothing, some as just}
@@ -8,11 +8,20 @@ use Rattle.format.specs.Dwords.{bytesOf}
 use Rattle.format.specs.Operands.{Tree, none, dwords}
 use Rattle.format.specs.Rows.{treeRows, treeWords}
 use Rattle.format.specs.Encoder.{at, extensionOf, operandDword}
+use Rattle.operand_walk.specs.Confirm.{Confirmer}
 use Rattle.operand_emit.specs.declared.Ends.{Ends}
 
 -- bytes in a list from a place on, over what was there
 unfoldable pub put : ℕ → List ℕ → List ℕ → List ℕ
 put p b out = take p out ++ b ++ drop (p + length b) out
+
+-- the row from a place on
+abbrev pub rowFrom : ℕ → List ℕ → List ℕ
+rowFrom first rs = take 16 (drop first rs)
+
+-- what stands in two pools from a row that begins at a place, whose number is the 16th part of that place, and from a word on
+abbrev pub standing : Confirmer → Confirmer
+standing p rs ws first w = p (drop first rs) (drop w ws) (first / 16) w
 
 -- the tree that there is
 abbrev pub treeIn : Option Tree → Tree
@@ -25,10 +34,10 @@ pub record Ready (o : Option Tree) (place n : ℕ) : Type 0 where
   pub is : o ≡ just tree
   pub room : 4 * (place + length (dwords tree)) ≤ n
 
--- its dwords stand there; what is behind it: a row, a word, and a dword of the output
-pub record Emitted (o : Option Tree) (row word place : ℕ) (out : List ℕ) (ends : Ends) (out′ : List ℕ) : Type 0 where
+-- its dwords stand there; what is behind it: a place where a row begins, a word, and a dword of the output
+pub record Emitted (o : Option Tree) (first word place : ℕ) (out : List ℕ) (ends : Ends) (out′ : List ℕ) : Type 0 where
   pub output-is : out′ ≡ put (4 * place) (bytesOf (dwords (treeIn o))) out
-  pub row-is : ends .row ≡ row + treeRows (treeIn o)
+  pub first-is : ends .first ≡ first + 16 * treeRows (treeIn o)
   pub word-is : ends .word ≡ word + length (treeWords (treeIn o))
   pub at-is : ends .at ≡ place + length (dwords (treeIn o))
 
@@ -59,9 +68,9 @@ pub record Lone (q : List ℕ) (ws word place n : ℕ) : Type 0 where
   pub room : 4 * (place + at 15 q) ≤ n
 
 -- the head and those words stand there
-pub record Stood (q ws : List ℕ) (row word place : ℕ) (out : List ℕ) (ends : Ends) (out′ : List ℕ) : Type 0 where
+pub record Stood (q ws : List ℕ) (first word place : ℕ) (out : List ℕ) (ends : Ends) (out′ : List ℕ) : Type 0 where
   pub output-is : out′ ≡ put (4 * place) (bytesOf (headOf q ++ take (wordsLeft q) (drop word ws))) out
-  pub row-is : ends .row ≡ row + 1
+  pub first-is : ends .first ≡ first + 16
   pub word-is : ends .word ≡ word + wordsLeft q
   pub at-is : ends .at ≡ place + at 15 q
 

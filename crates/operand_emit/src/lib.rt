@@ -7,13 +7,12 @@ ghost use Rattle.format.specs.Dwords.{bytesOf};
 ghost use Rattle.format.specs.Operands as op;
 ghost use Rattle.format.specs.Encoder as e;
 ghost use Rattle.operand_walk.specs.Confirm as c;
-ghost use Rattle.operand_walk.specs.Walks.{there, rowAt};
 ghost use Rattle.operand_emit.specs.Emits as w;
 use operand_walk::pair;
 
-// The row, the word and the dword of the output behind what was written.
+// The place where the row behind what was written begins, the word and the dword of the output behind it.
 pub struct Ends {
-    pub row: usize,
+    pub first: usize,
     pub word: usize,
     pub at: usize,
 }
@@ -85,8 +84,8 @@ fn pack(form: u32, selection: u32, kind: u32, dimension: u32, reprs: u32, modifi
 
 // Makes an operand's dword from the row at a place.
 fn dword(operands: &[u32], o: usize) -> u32
-    requires { ⌜ (o + 16 ≤ length (now operands)) × w.Fits (take 16 (drop o (now operands))) ⌝ }
-    ensures { λ r. ⌜ r ≡ e.operandDword (take 16 (drop o (now (operands .entry)))) ⌝ }
+    requires { ⌜ (o + 16 ≤ length (now operands)) × w.Fits (w.rowFrom o (now operands)) ⌝ }
+    ensures { λ r. ⌜ r ≡ e.operandDword (w.rowFrom o (now (operands .entry))) ⌝ }
 {
     pack(
         operands[o + 1],
@@ -100,8 +99,8 @@ fn dword(operands: &[u32], o: usize) -> u32
 
 // Stores an operand's dword and the extension of its modifiers; gives the dword of the output behind them.
 fn head(operands: &[u32], o: usize, output: &mut [u8], at: usize) -> usize
-    requires { ⌜ (o + 16 ≤ length (now operands)) × w.Fits (take 16 (drop o (now operands))) × (4 * (at + length (w.headOf (take 16 (drop o (now operands))))) ≤ length (now output)) ⌝ }
-    ensures { λ r. ⌜ w.Headed (w.headOf (take 16 (drop o (now (operands .entry))))) at (now (output .entry)) r (now (output .exit)) ⌝ }
+    requires { ⌜ (o + 16 ≤ length (now operands)) × w.Fits (w.rowFrom o (now operands)) × (4 * (at + length (w.headOf (w.rowFrom o (now operands)))) ≤ length (now output)) ⌝ }
+    ensures { λ r. ⌜ w.Headed (w.headOf (w.rowFrom o (now (operands .entry)))) at (now (output .entry)) r (now (output .exit)) ⌝ }
 {
     let m = operands[o + 3];
     put_dword(output, at, dword(operands, o));
@@ -116,21 +115,20 @@ fn head(operands: &[u32], o: usize, output: &mut [u8], at: usize) -> usize
 fn lone(
     operands: &[u32],
     words: &[u32],
-    row: usize,
+    first: usize,
     word: usize,
     output: &mut [u8],
     at: usize,
 ) -> Ends
-    requires { ⌜ (16 * row + 16 ≤ length (now operands)) × w.Lone (rowAt row (now operands)) (length (now words)) word at (length (now output)) ⌝ }
-    ensures { λ r. ⌜ w.Stood (rowAt row (now (operands .entry))) (now (words .entry)) row word at (now (output .entry)) r (now (output .exit)) ⌝ }
+    requires { ⌜ (first + 16 ≤ length (now operands)) × w.Lone (w.rowFrom first (now operands)) (length (now words)) word at (length (now output)) ⌝ }
+    ensures { λ r. ⌜ w.Stood (w.rowFrom first (now (operands .entry))) (now (words .entry)) first word at (now (output .entry)) r (now (output .exit)) ⌝ }
 {
-    let o = 16 * row;
-    let end = at + operands[o + 15] as usize;
-    let from = head(operands, o, output, at);
+    let end = at + operands[first + 15] as usize;
+    let from = head(operands, first, output, at);
     let n = end - from;
     copy(words, word, n, output, from);
     Ends {
-        row: row + 1,
+        first: first + 16,
         word: word + n,
         at: end,
     }
@@ -138,8 +136,8 @@ fn lone(
 
 // Makes the dword of an operand without representations from the row at a place, but for bit 31.
 fn flat_dword(operands: &[u32], o: usize) -> u32
-    requires { ⌜ (o + 16 ≤ length (now operands)) × w.Fits (take 16 (drop o (now operands))) ⌝ }
-    ensures { λ r. ⌜ r ≡ w.flatOf (take 16 (drop o (now (operands .entry)))) ⌝ }
+    requires { ⌜ (o + 16 ≤ length (now operands)) × w.Fits (w.rowFrom o (now operands)) ⌝ }
+    ensures { λ r. ⌜ r ≡ w.flatOf (w.rowFrom o (now (operands .entry))) ⌝ }
 {
     let front = operands[o] * 0x1000 + operands[o + 2] * 0x10 + low(operands[o + 1]);
     front + operands[o + 6] * 0x10_0000
@@ -149,19 +147,19 @@ fn flat_dword(operands: &[u32], o: usize) -> u32
 fn with_word(
     operands: &[u32],
     words: &[u32],
-    row: usize,
+    first: usize,
     word: usize,
     output: &mut [u8],
     at: usize,
 ) -> Ends
-    requires { ⌜ (16 * row + 16 ≤ length (now operands)) × (e.at 3 (rowAt row (now operands)) ≡ 0) × w.Few (rowAt row (now operands)) 1 × w.Lone (rowAt row (now operands)) (length (now words)) word at (length (now output)) ⌝ }
-    ensures { λ r. ⌜ w.Stood (rowAt row (now (operands .entry))) (now (words .entry)) row word at (now (output .entry)) r (now (output .exit)) ⌝ }
+    requires { ⌜ (first + 16 ≤ length (now operands)) × (e.at 3 (w.rowFrom first (now operands)) ≡ 0) × w.Few (w.rowFrom first (now operands)) 1 × w.Lone (w.rowFrom first (now operands)) (length (now words)) word at (length (now output)) ⌝ }
+    ensures { λ r. ⌜ w.Stood (w.rowFrom first (now (operands .entry))) (now (words .entry)) first word at (now (output .entry)) r (now (output .exit)) ⌝ }
 {
-    let t = flat_dword(operands, 16 * row);
+    let t = flat_dword(operands, first);
     put_dword(output, at, t);
     put_dword(output, at + 1, words[word]);
     Ends {
-        row: row + 1,
+        first: first + 16,
         word: word + 1,
         at: at + 2,
     }
@@ -171,20 +169,20 @@ fn with_word(
 fn with_modifiers(
     operands: &[u32],
     words: &[u32],
-    row: usize,
+    first: usize,
     word: usize,
     output: &mut [u8],
     at: usize,
 ) -> Ends
-    requires { ⌜ (16 * row + 16 ≤ length (now operands)) × (0 < e.at 3 (rowAt row (now operands))) × w.Few (rowAt row (now operands)) 1 × w.Lone (rowAt row (now operands)) (length (now words)) word at (length (now output)) ⌝ }
-    ensures { λ r. ⌜ w.Stood (rowAt row (now (operands .entry))) (now (words .entry)) row word at (now (output .entry)) r (now (output .exit)) ⌝ }
+    requires { ⌜ (first + 16 ≤ length (now operands)) × (0 < e.at 3 (w.rowFrom first (now operands))) × w.Few (w.rowFrom first (now operands)) 1 × w.Lone (w.rowFrom first (now operands)) (length (now words)) word at (length (now output)) ⌝ }
+    ensures { λ r. ⌜ w.Stood (w.rowFrom first (now (operands .entry))) (now (words .entry)) first word at (now (output .entry)) r (now (output .exit)) ⌝ }
 {
-    let t = flat_dword(operands, 16 * row);
+    let t = flat_dword(operands, first);
     put_dword(output, at, t + 0x8000_0000);
-    put_dword(output, at + 1, extension(operands[16 * row + 3]));
+    put_dword(output, at + 1, extension(operands[first + 3]));
     put_dword(output, at + 2, words[word]);
     Ends {
-        row: row + 1,
+        first: first + 16,
         word: word + 1,
         at: at + 3,
     }
@@ -195,22 +193,22 @@ fn with_modifiers(
 fn with_two(
     operands: &[u32],
     words: &[u32],
-    row: usize,
+    first: usize,
     word: usize,
     output: &mut [u8],
     at: usize,
 ) -> Ends
-    requires { ⌜ (16 * row + 16 ≤ length (now operands)) × (e.at 3 (rowAt row (now operands)) ≡ 0) × w.Few (rowAt row (now operands)) 2 × w.Lone (rowAt row (now operands)) (length (now words)) word at (length (now output)) ⌝ }
-    ensures { λ r. ⌜ w.Stood (rowAt row (now (operands .entry))) (now (words .entry)) row word at (now (output .entry)) r (now (output .exit)) ⌝ }
+    requires { ⌜ (first + 16 ≤ length (now operands)) × (e.at 3 (w.rowFrom first (now operands)) ≡ 0) × w.Few (w.rowFrom first (now operands)) 2 × w.Lone (w.rowFrom first (now operands)) (length (now words)) word at (length (now output)) ⌝ }
+    ensures { λ r. ⌜ w.Stood (w.rowFrom first (now (operands .entry))) (now (words .entry)) first word at (now (output .entry)) r (now (output .exit)) ⌝ }
 {
-    let t = flat_dword(operands, 16 * row);
+    let t = flat_dword(operands, first);
     let a = words[word];
     let b = words[word + 1];
     put_dword(output, at, t);
     put_dword(output, at + 1, a);
     put_dword(output, at + 2, b);
     Ends {
-        row: row + 1,
+        first: first + 16,
         word: word + 2,
         at: at + 3,
     }
@@ -220,15 +218,15 @@ fn with_two(
 fn with_four(
     operands: &[u32],
     words: &[u32],
-    row: usize,
+    first: usize,
     word: usize,
     output: &mut [u8],
     at: usize,
 ) -> Ends
-    requires { ⌜ (16 * row + 16 ≤ length (now operands)) × (e.at 3 (rowAt row (now operands)) ≡ 0) × w.Few (rowAt row (now operands)) 4 × w.Lone (rowAt row (now operands)) (length (now words)) word at (length (now output)) ⌝ }
-    ensures { λ r. ⌜ w.Stood (rowAt row (now (operands .entry))) (now (words .entry)) row word at (now (output .entry)) r (now (output .exit)) ⌝ }
+    requires { ⌜ (first + 16 ≤ length (now operands)) × (e.at 3 (w.rowFrom first (now operands)) ≡ 0) × w.Few (w.rowFrom first (now operands)) 4 × w.Lone (w.rowFrom first (now operands)) (length (now words)) word at (length (now output)) ⌝ }
+    ensures { λ r. ⌜ w.Stood (w.rowFrom first (now (operands .entry))) (now (words .entry)) first word at (now (output .entry)) r (now (output .exit)) ⌝ }
 {
-    let t = flat_dword(operands, 16 * row);
+    let t = flat_dword(operands, first);
     let a = words[word];
     let b = words[word + 1];
     let c = words[word + 2];
@@ -239,7 +237,7 @@ fn with_four(
     put_dword(output, at + 3, c);
     put_dword(output, at + 4, d);
     Ends {
-        row: row + 1,
+        first: first + 16,
         word: word + 4,
         at: at + 5,
     }
@@ -254,18 +252,18 @@ fn index(
     left: usize,
     output: &mut [u8],
 ) -> Ends
-    requires { ⌜ (0 < left) × w.Ready (there (c.confirmIndex (c.confirm (left - 1)) r) (now operands) (now words) (from .row) (from .word)) (from .at) (length (now output)) ⌝ }
-    ensures { λ s. ⌜ w.Emitted (there (c.confirmIndex (c.confirm (left - 1)) r) (now (operands .entry)) (now (words .entry)) (from .row) (from .word)) (from .row) (from .word) (from .at) (now (output .entry)) s (now (output .exit)) ⌝ }
+    requires { ⌜ (0 < left) × w.Ready (w.standing (c.confirmIndex (c.confirm (left - 1)) r) (now operands) (now words) (from .first) (from .word)) (from .at) (length (now output)) ⌝ }
+    ensures { λ s. ⌜ w.Emitted (w.standing (c.confirmIndex (c.confirm (left - 1)) r) (now (operands .entry)) (now (words .entry)) (from .first) (from .word)) (from .first) (from .word) (from .at) (now (output .entry)) s (now (output .exit)) ⌝ }
 {
     let n = tokens::own(r);
     copy(words, from.word, n, output, from.at);
     let word = from.word + n;
     let at = from.at + n;
     if tokens::nests(r) {
-        return deep(operands, words, from.row, word, left - 1, output, at);
+        return deep(operands, words, from.first, word, left - 1, output, at);
     }
     Ends {
-        row: from.row,
+        first: from.first,
         word,
         at,
     }
@@ -275,24 +273,23 @@ fn index(
 fn deep(
     operands: &[u32],
     words: &[u32],
-    row: usize,
+    first: usize,
     word: usize,
     left: usize,
     output: &mut [u8],
     at: usize,
 ) -> Ends
-    requires { ⌜ w.Ready (there (c.confirm left) (now operands) (now words) row word) at (length (now output)) ⌝ }
-    ensures { λ r. ⌜ w.Emitted (there (c.confirm left) (now (operands .entry)) (now (words .entry)) row word) row word at (now (output .entry)) r (now (output .exit)) ⌝ }
+    requires { ⌜ w.Ready (w.standing (c.confirm left) (now operands) (now words) first word) at (length (now output)) ⌝ }
+    ensures { λ r. ⌜ w.Emitted (w.standing (c.confirm left) (now (operands .entry)) (now (words .entry)) first word) first word at (now (output .entry)) r (now (output .exit)) ⌝ }
 {
-    let o = 16 * row;
-    if operands[o + 14] == 1 {
-        return lone(operands, words, row, word, output, at);
+    if operands[first + 14] == 1 {
+        return lone(operands, words, first, word, output, at);
     }
-    let t = dword(operands, o);
+    let t = dword(operands, first);
     let start = Ends {
-        row: row + 1,
+        first: first + 16,
         word,
-        at: head(operands, o, output, at),
+        at: head(operands, first, output, at),
     };
     let a = index(operands, words, start, tokens::repr(0, t), left, output);
     let b = index(operands, words, a, tokens::repr(1, t), left, output);
@@ -302,14 +299,13 @@ fn deep(
 // Tells which short way there is to write an operand, by its row; 0: none.
 fn way(operands: &[u32], o: usize) -> u32
     requires { ⌜ o + 16 ≤ length (now operands) ⌝ }
-    ensures { λ r. ⌜ w.Way (take 16 (drop o (now (operands .entry)))) r ⌝ }
+    ensures { λ r. ⌜ w.Way (w.rowFrom o (now (operands .entry))) r ⌝ }
 {
-    let one = pair(operands[o + 6], operands[o + 7]) == 1;
-    if operands[o + 3] != 0 {
-        return if one { 3 } else { 0 };
+    if pair(operands[o + 6], operands[o + 7]) == 1 {
+        return if operands[o + 3] == 0 { 1 } else { 3 };
     }
-    if one {
-        return 1;
+    if operands[o + 3] != 0 {
+        return 0;
     }
     if operands[o + 7] != 0 {
         return 0;
@@ -324,41 +320,42 @@ fn way(operands: &[u32], o: usize) -> u32
     }
 }
 
-// Writes the operand that was confirmed at a row and a word, from a dword of the output on. Most have one index of one dword,
-// or else a few words, and go a short way. The others' pools are lent afresh, which leaves those of the callers in registers.
+// Writes the operand that was confirmed where its row begins and at a word, from a dword of the output on. Most have one index
+// of one dword, or else a few words, and go a short way. The others' pools are lent afresh, which leaves those of the callers
+// in registers.
 pub fn emit(
     operands: &[u32],
     words: &[u32],
-    row: usize,
+    first: usize,
     word: usize,
     left: usize,
     output: &mut [u8],
     at: usize,
 ) -> Ends
-    requires { ⌜ w.Ready (there (c.confirm left) (now operands) (now words) row word) at (length (now output)) ⌝ }
-    ensures { λ r. ⌜ w.Emitted (there (c.confirm left) (now (operands .entry)) (now (words .entry)) row word) row word at (now (output .entry)) r (now (output .exit)) ⌝ }
+    requires { ⌜ w.Ready (w.standing (c.confirm left) (now operands) (now words) first word) at (length (now output)) ⌝ }
+    ensures { λ r. ⌜ w.Emitted (w.standing (c.confirm left) (now (operands .entry)) (now (words .entry)) first word) first word at (now (output .entry)) r (now (output .exit)) ⌝ }
 {
-    let way = way(operands, 16 * row);
+    let way = way(operands, first);
     if way == 1 {
-        return with_word(operands, words, row, word, output, at);
+        return with_word(operands, words, first, word, output, at);
     }
     if way == 2 {
-        return with_two(operands, words, row, word, output, at);
+        return with_two(operands, words, first, word, output, at);
     }
     if way == 3 {
-        return with_modifiers(operands, words, row, word, output, at);
+        return with_modifiers(operands, words, first, word, output, at);
     }
     if way == 4 {
-        return with_four(operands, words, row, word, output, at);
+        return with_four(operands, words, first, word, output, at);
     }
     if way == 5 {
-        return with_word(operands, words, row, word, output, at);
+        return with_word(operands, words, first, word, output, at);
     }
     let rows = &operands[0..operands.len()];
     let all = &words[0..words.len()];
-    let ends = deep(rows, all, row, word, left, output, at);
+    let ends = deep(rows, all, first, word, left, output, at);
     Ends {
-        row: ends.row,
+        first: ends.first,
         word: ends.word,
         at: ends.at,
     }

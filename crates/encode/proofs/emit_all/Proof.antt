@@ -1,4 +1,4 @@
-use Prim.Native.Nat.{_-_, _/_}
+use Prim.Native.Nat.{_-_}
 use mathlib.Core.Path.{refl, _∙_}
 use lib.ListN.{length}
 use native.Mathlib.Omega.{arith}
@@ -7,10 +7,10 @@ use Rattle.encode.proofs.emit_all.Statement.{statement}
 use Rattle.encode.proofs.emit_all.Tie as tie
 
 abbrev Inv-loop : tie.InvT-loop
-Inv-loop instructions operands words output₀ n s₀ output s = Midway instructions operands words output₀ s output
+Inv-loop instructions operands words output₀ s₀ output s = Midway instructions operands words output₀ s output
 
 abbrev μ-loop : tie.MeasureT-loop
-μ-loop instructions operands words output₀ n s₀ output s = length instructions / 16 - s .instruction
+μ-loop instructions operands words output₀ s₀ output s = length instructions - s .first
 
 loop-holds : tie.Need-loop-holds Inv-loop μ-loop
 loop-holds c = record { long = refl; toward = λ final g. g }

@@ -5,10 +5,10 @@ use Rattle.instruction_emit.proofs.run.Statement.{statement}
 use Rattle.instruction_emit.proofs.run.Tie as tie
 
 abbrev Inv-loop : tie.InvT-loop
-Inv-loop operands words row word count output₀ at x₀ i₀ output x i = Running operands words row word count at output₀ x i output
+Inv-loop operands words operand word count output₀ at x₀ i₀ output x i = Running operands words operand word count at output₀ x i output
 
 abbrev μ-loop : tie.MeasureT-loop
-μ-loop operands words row word count output₀ at x₀ i₀ output x i = count - i
+μ-loop operands words operand word count output₀ at x₀ i₀ output x i = count - i
 
 loop-holds : tie.Need-loop-holds Inv-loop μ-loop
 loop-holds c = begin _ _ _ _ _ _ _ (c .before .before .before .pre)

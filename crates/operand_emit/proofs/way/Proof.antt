@@ -1,4 +1,3 @@
-use borrow.Author.Tests.{eqb-true}
 use Rattle.operand_emit.proofs.Heads.{way-one, way-modified, way-two, way-four, way-immediate}
 use borrow.Author.Needs.{needs}
 use Rattle.operand_emit.proofs.way.Statement.{statement}
@@ -25,23 +24,32 @@ shared-slice-read-pair-2 c = search needs
 pair-requires : tie.Need-pair-requires
 pair-requires c κs = search needs
 
-add-if1 : tie.Need-add-if1
-add-if1 c = search needs
+add-if2 : tie.Need-add-if2
+add-if2 c = search needs
 
-mul-if1 : tie.Need-mul-if1
-mul-if1 c = search needs
+mul-if2 : tie.Need-mul-if2
+mul-if2 c = search needs
 
-shared-slice-read-if1 : tie.Need-shared-slice-read-if1
-shared-slice-read-if1 c = search needs
+shared-slice-read-if2 : tie.Need-shared-slice-read-if2
+shared-slice-read-if2 c = search needs
 
 returns : tie.Need-returns
-returns c = let a = c .before .before .before .before .before .before .before .args in way-modified (a .operands .now) (a .o) (c .before .before .before .pair .ensures .0) (eqb-true _ 1 (c .if2 .taken)) (c .before .if1 .taken)
+returns c = let a = c .before .before .before .before .before .before .before .args in way-one (a .operands .now) (a .o) (c .before .before .before .pair .ensures .0) (c .before .before .if1 .taken) (c .if2 .taken)
 
 returns-2 : tie.Need-returns-2
-returns-2 c = search needs
+returns-2 c = let a = c .before .before .before .before .before .before .before .args in way-modified (a .operands .now) (a .o) (c .before .before .before .pair .ensures .0) (c .before .before .if1 .taken) (c .if2 .left)
+
+add-if3 : tie.Need-add-if3
+add-if3 c = search needs
+
+mul-if3 : tie.Need-mul-if3
+mul-if3 c = search needs
+
+shared-slice-read-if3 : tie.Need-shared-slice-read-if3
+shared-slice-read-if3 c = search needs
 
 returns-3 : tie.Need-returns-3
-returns-3 c = let a = c .before .before .before .before .before .before .before .args in way-one (a .operands .now) (a .o) (c .before .before .before .pair .ensures .0) (eqb-true _ 1 (c .if3 .taken)) (c .before .if1 .left)
+returns-3 c = search needs
 
 add-if4 : tie.Need-add-if4
 add-if4 c = search needs
@@ -65,7 +73,7 @@ shared-slice-read-if5 : tie.Need-shared-slice-read-if5
 shared-slice-read-if5 c = search needs
 
 returns-5 : tie.Need-returns-5
-returns-5 c = let a = c .before .before .before .before .before .before .before .before .before .before .before .args in way-two (a .operands .now) (a .o) (c .before .before .before .before .before .if1 .left) (c .before .before .if4 .left) (c .if5 .taken)
+returns-5 c = let a = c .before .before .before .before .before .before .before .before .before .before .before .args in way-two (a .operands .now) (a .o) (c .before .before .before .before .if3 .left) (c .before .before .if4 .left) (c .if5 .taken)
 
 add-match : tie.Need-add-match
 add-match c = search needs
@@ -77,10 +85,10 @@ shared-slice-read-match : tie.Need-shared-slice-read-match
 shared-slice-read-match c = search needs
 
 returns-6 : tie.Need-returns-6
-returns-6 c = let a = c .before .before .before .before .before .before .before .before .before .before .before .before .before .args in way-immediate (a .operands .now) (a .o) (c .before .before .before .before .before .before .before .if1 .left) (c .before .before .before .before .if4 .left) (c .match .keys1)
+returns-6 c = let a = c .before .before .before .before .before .before .before .before .before .before .before .before .before .args in way-immediate (a .operands .now) (a .o) (c .before .before .before .before .before .before .if3 .left) (c .before .before .before .before .if4 .left) (c .match .keys1)
 
 returns-7 : tie.Need-returns-7
-returns-7 c = let a = c .before .before .before .before .before .before .before .before .before .before .before .before .before .args in way-four (a .operands .now) (a .o) (c .before .before .before .before .before .before .before .if1 .left) (c .before .before .before .before .if4 .left) (c .match .keys2)
+returns-7 c = let a = c .before .before .before .before .before .before .before .before .before .before .before .before .before .args in way-four (a .operands .now) (a .o) (c .before .before .before .before .before .before .if3 .left) (c .before .before .before .before .if4 .left) (c .match .keys2)
 
 returns-8 : tie.Need-returns-8
 returns-8 c = search needs
@@ -96,11 +104,14 @@ way-spec =
     mul-pair-2
     shared-slice-read-pair-2
     pair-requires
-    add-if1
-    mul-if1
-    shared-slice-read-if1
+    add-if2
+    mul-if2
+    shared-slice-read-if2
     returns
     returns-2
+    add-if3
+    mul-if3
+    shared-slice-read-if3
     returns-3
     add-if4
     mul-if4

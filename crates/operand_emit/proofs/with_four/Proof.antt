@@ -5,9 +5,6 @@ use borrow.Author.Needs.{needs}
 use Rattle.operand_emit.proofs.with_four.Statement.{statement}
 use Rattle.operand_emit.proofs.with_four.Tie as tie
 
-mul-flat-dword : tie.Need-mul-flat-dword
-mul-flat-dword c = search needs
-
 flat-dword-requires : tie.Need-flat-dword-requires
 flat-dword-requires c κs = search needs
 
@@ -84,13 +81,12 @@ same-length : tie.Need-same-length
 same-length c = search needs
 
 returns : tie.Need-returns
-returns c = let a = c .before .before .before .before .before .before .before .before .before .before .before .before .before .before .before .before .before .before .before .before .before .before .before .before .before .before .before .before .args in four-stood (a .operands .now) (a .words .now) (a .row) (a .word) (a .at) (length (a .output .now)) (c .before .before .before .before .before .before .before .before .before .before .before .before .before .before .before .before .before .before .before .before .before .before .before .before .before .before .before .before .pre .3) (c .before .before .before .before .before .before .before .before .before .before .before .before .before .before .before .before .before .before .before .before .before .before .before .before .before .before .before .before .pre .1) 4 (c .before .before .before .before .before .before .before .before .before .before .before .before .before .before .before .before .before .before .before .before .before .before .before .before .before .before .before .before .pre .2) _ (c .before .before .before .before .before .before .before .before .before .before .before .before .before .before .before .before .before .before .before .before .before .before .before .before .flat-dword .ensures) (a .output .now) refl (c .before .before .before .before .before .before .before .before .before .before .before .before .before .before .before .before .before .before .put-dword .ensures) (c .before .before .before .before .before .before .before .before .before .before .before .before .before .before .put-dword2 .ensures) (c .before .before .before .before .before .before .before .before .before .before .put-dword3 .ensures) refl (c .before .before .before .before .before .before .put-dword4 .ensures) (c .before .before .put-dword5 .ensures)
+returns c = let a = c .before .before .before .before .before .before .before .before .before .before .before .before .before .before .before .before .before .before .before .before .before .before .before .before .before .before .before .before .args in four-stood (a .operands .now) (a .words .now) (a .first) (a .word) (a .at) (length (a .output .now)) (c .before .before .before .before .before .before .before .before .before .before .before .before .before .before .before .before .before .before .before .before .before .before .before .before .before .before .before .before .pre .3) (c .before .before .before .before .before .before .before .before .before .before .before .before .before .before .before .before .before .before .before .before .before .before .before .before .before .before .before .before .pre .1) 4 (c .before .before .before .before .before .before .before .before .before .before .before .before .before .before .before .before .before .before .before .before .before .before .before .before .before .before .before .before .pre .2) _ (c .before .before .before .before .before .before .before .before .before .before .before .before .before .before .before .before .before .before .before .before .before .before .before .before .flat-dword .ensures) (a .output .now) refl (c .before .before .before .before .before .before .before .before .before .before .before .before .before .before .before .before .before .before .put-dword .ensures) (c .before .before .before .before .before .before .before .before .before .before .before .before .before .before .put-dword2 .ensures) (c .before .before .before .before .before .before .before .before .before .before .put-dword3 .ensures) refl (c .before .before .before .before .before .before .put-dword4 .ensures) (c .before .before .put-dword5 .ensures)
 
 pub with-four-spec : {M : Type 1} → statement M
 with-four-spec =
     tie.close
     (tie.spec
-    mul-flat-dword
     flat-dword-requires
     mul-a
     shared-slice-read-a

@@ -5,9 +5,6 @@ use borrow.Author.Needs.{needs}
 use Rattle.operand_emit.proofs.with_word.Statement.{statement}
 use Rattle.operand_emit.proofs.with_word.Tie as tie
 
-mul-flat-dword : tie.Need-mul-flat-dword
-mul-flat-dword c = search needs
-
 flat-dword-requires : tie.Need-flat-dword-requires
 flat-dword-requires c κs = search needs
 
@@ -26,8 +23,8 @@ shared-slice-read-put-dword c = search needs
 put-dword-requires-2 : tie.Need-put-dword-requires-2
 put-dword-requires-2 c κs = search needs
 
-add-t8 : tie.Need-add-t8
-add-t8 c = search needs
+add-t13 : tie.Need-add-t13
+add-t13 c = search needs
 
 add-t14 : tie.Need-add-t14
 add-t14 c = search needs
@@ -39,20 +36,19 @@ same-length : tie.Need-same-length
 same-length c = search needs
 
 returns : tie.Need-returns
-returns c = let a = c .before .before .before .before .before .before .before .before .before .before .before .before .before .args in one-stood (a .operands .now) (a .words .now) (a .row) (a .word) (a .at) (length (a .output .now)) (c .before .before .before .before .before .before .before .before .before .before .before .before .before .pre .3) (c .before .before .before .before .before .before .before .before .before .before .before .before .before .pre .1) 1 (c .before .before .before .before .before .before .before .before .before .before .before .before .before .pre .2) _ (c .before .before .before .before .before .before .before .before .before .flat-dword .ensures) (a .output .now) refl (c .before .before .before .before .before .before .before .put-dword .ensures) (c .before .before .put-dword2 .ensures) refl
+returns c = let a = c .before .before .before .before .before .before .before .before .before .before .before .before .before .args in one-stood (a .operands .now) (a .words .now) (a .first) (a .word) (a .at) (length (a .output .now)) (c .before .before .before .before .before .before .before .before .before .before .before .before .before .pre .3) (c .before .before .before .before .before .before .before .before .before .before .before .before .before .pre .1) 1 (c .before .before .before .before .before .before .before .before .before .before .before .before .before .pre .2) _ (c .before .before .before .before .before .before .before .before .before .flat-dword .ensures) (a .output .now) refl (c .before .before .before .before .before .before .before .put-dword .ensures) (c .before .before .put-dword2 .ensures) refl
 
 pub with-word-spec : {M : Type 1} → statement M
 with-word-spec =
     tie.close
     (tie.spec
-    mul-flat-dword
     flat-dword-requires
     put-dword-requires
     add-put-dword
     mul-put-dword
     shared-slice-read-put-dword
     put-dword-requires-2
-    add-t8
+    add-t13
     add-t14
     add-t17
     same-length
