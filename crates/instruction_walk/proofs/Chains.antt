@@ -4,9 +4,10 @@ use mathlib.Core.Path.{_≡_, refl, sym, ap, _∙_, subst}
 use mathlib.Core.List.{List, [], _∷_}
 use mathlib.Core.Bool.{Bool, true, false, not, cond, _&&_}
 use native.Mathlib.Decide.{ℕ-discrete}
+use native.Mathlib.Nat.{add-zero}
 use native.Mathlib.Omega.{arith}
-use lib.ListN.{length}
-use lib.Dec.{eqb, ltb}
+use lib.ListN.{length, getD, take}
+use lib.Dec.{eqb, ltb, lit<}
 use lib.Pow.{pow-pos}
 use borrow.Author.Tests.{eq-eqb, ne-eqb, eqb-true, eqb-false, lt-ltb, ltb-true, not-false}
 use Rattle.format.specs.Dwords.{bits, follows}
@@ -14,9 +15,13 @@ use Rattle.format.specs.Counts.{extensionType, lowerBits, rising, ofType, typeB
 use Rattle.format.specs.Encoder.{chainOf}
 use Rattle.format.proofs.Dwords.{impossible, both}
 use Rattle.format.proofs.Chains.{Rose, rose}
+use Rattle.operand_walk.proofs.Fields.{row-at}
+use Rattle.instruction.specs.declared.Place.{Place}
 use Rattle.instruction.specs.declared.Place.the-variants.{At, Off}
 use Rattle.instruction_walk.specs.Confirm.{linked}
-use Rattle.instruction_walk.specs.Walks.{Counts, are, none-are, Chained}
+use Rattle.instruction_walk.specs.Walks.{rowFrom, Counts, are, none-are, Unchained, Chained, chainIn, Linked}
+use Rattle.instruction_walk.proofs.Deciding.{Told, told}
+use Rattle.instruction_walk.proofs.Items.{lent}
 
 -- ---- types 1, 2, 3, each there or not
 data Third : List ℕ → Type 0 where
@@ -220,7 +225,7 @@ module _ (u a b : ℕ) where
       let z : b + 0 ≡ b = omega arith in
       (subst (Link 3 false) z (l .link), l .value ∙ ap (λ (x : ℕ). x % 2 ^ 31) z)
 
-  pub chain-fits : (n : ℕ) → n < 8 → Fits n → Chained (ltb 0 n) n u a b
+  chain-fits : (n : ℕ) → n < 8 → Fits n → Chained (ltb 0 n) n u a b
   unfolding chainOf rising linked typeBits ofType
   chain-fits zero h (x, y, z) = record { risen = refl; taken = refl; bits-are = refl; first-is = no-u x; second-is = eqb-true a 0 y; third-is = eqb-true b 0 z }
   chain-fits (suc zero) h (x, y, z) =
@@ -312,6 +317,18 @@ module _ (u a b : ℕ) where
   chain-length (suc (suc (suc (suc (suc (suc (suc zero))))))) h = refl
   chain-length (suc (suc (suc (suc (suc (suc (suc (suc n)))))))) h = impossible (omega arith)
 
+-- ---- bit 31
+pub bit-below : (n : ℕ) {x : ℕ} → x ≡ cond (ltb 0 n) 1 0 → x < 2
+bit-below n {x} e = go (ltb 0 n) e
+  where
+    go : (b : Bool) → x ≡ cond b 1 0 → x < 2
+    go true e = omega arith
+    go false e = omega arith
+
+pub bit-is : (b : Bool) {x : ℕ} → x ≡ cond b 1 0 → eqb x 1 ≡ b
+bit-is true {x} e = eq-eqb x 1 e
+bit-is false e = rw e
+
 -- ---- the code's ways
 module _ (bit n u a b : ℕ) where
   abbrev Answers : Type 0
@@ -347,8 +364,25 @@ module _ (bit n u a b : ℕ) where
         all-fit x ex eb h hp hq hr k ek =
             let l : length (chainOf n u a b) ≡ k = chain-length u a b n h ∙ sym ek in
             let c = chain-fits u a b n h (sym ep ∙ not-false p hp, sym eq ∙ not-false q hq, sym er ∙ not-false r hr) in
-            rw l (are (omega (arith, ek, h)) (rw (go (ltb 0 n) (eb ∙ ex)) c))
-          where
-            go : (f : Bool) → bit ≡ cond f 1 0 → eqb bit 1 ≡ f
-            go true e = eq-eqb bit 1 e
-            go false e = rw e
+            rw l (are (omega (arith, ek, h)) (rw (bit-is (ltb 0 n) (eb ∙ ex)) c))
+
+-- words 8 to 11 of the row that begins at i
+module _ (l : List ℕ) (i : ℕ) where
+  pub linked-row : {x : ℕ} {p : Place} → x ≡ cond (ltb 0 (getD l (i + 8) 0)) 1 0 → Counts (Chained (eqb x 1) (getD l (i + 8) 0) (getD l (i + 9) 0) (getD l (i + 10) 0) (getD l (i + 11) 0)) (length (chainOf (getD l (i + 8) 0) (getD l (i + 9) 0) (getD l (i + 10) 0) (getD l (i + 11) 0))) p → Counts (Linked (rowFrom i l)) (length (chainIn (rowFrom i l))) p
+  linked-row e c = rw (row-at l i 8 (lit< tt), row-at l i 9 (lit< tt), row-at l i 10 (lit< tt), row-at l i 11 (lit< tt)) (rw (bit-is (ltb 0 (getD l (i + 8) 0)) e) at c)
+
+  -- a row without a chain
+  pub unlinked : {d : ℕ} → Unchained (rowFrom i l) 0 → Linked (rowFrom i l) × (d + length (chainIn (rowFrom i l)) ≡ d)
+  unfolding chainOf
+  unlinked u = (rw (u .bits-are, u .no-first, u .no-second, u .no-third) (chain-fits 0 0 0 0 (omega arith) (refl, refl, refl)), rw (u .bits-are) (add-zero _))
+
+  -- a row of a pool that is lent anew
+  module _ {p : Place} (t : Counts (Linked (rowFrom i (take (length l - 0) l))) (length (chainIn (rowFrom i (take (length l - 0) l)))) p) {k : ℕ} (e : p ≡ At k) where
+    here : Told (Linked (rowFrom i l)) (length (chainIn (rowFrom i l))) k
+    here = subst (λ (q : List ℕ). Told (Linked (rowFrom i q)) (length (chainIn (rowFrom i q))) k) (lent l) (told t e)
+
+    pub few-linked : k ≤ 3
+    few-linked = here .few
+
+    pub linked-there : (d : ℕ) → Linked (rowFrom i l) × (d + length (chainIn (rowFrom i l)) ≡ d + k)
+    linked-there d = (here .is, ap (λ (j : ℕ). d + j) (here .size))

@@ -1,5 +1,5 @@
 -- What an answer decides, and the words of a row in its pool.
-use Prim.Native.Nat.{ℕ, _+_, _%_}
+use Prim.Native.Nat.{ℕ, _+_, _%_, _≤_}
 use mathlib.Core.Path.{_≡_, sym, ap, _∙_}
 use mathlib.Core.List.{List}
 use mathlib.Core.Bool.{Bool, true, false, cond, _&&_, _||_}
@@ -14,7 +14,9 @@ use Rattle.format.specs.Framing.{sized}
 use Rattle.format.specs.Counts.{Fields, extensionType}
 use Rattle.format.specs.Encoder.{at}
 use Rattle.operand_walk.proofs.Fields.{row-at}
-use Rattle.instruction_walk.specs.Walks.{rowFrom, Decides, holds, fails, Unchained, Fielded, Sized, Placed}
+use Rattle.instruction.specs.declared.Place.{Place}
+use Rattle.instruction.specs.declared.Place.the-variants.{At}
+use Rattle.instruction_walk.specs.Walks.{rowFrom, Decides, holds, fails, Counts, are, none-are, Unchained, Fielded, Sized, Placed}
 
 pub granted : {P : Type 0} {b : Bool} → Decides P b → b ≡ true → P
 granted (holds p) e = p
@@ -23,6 +25,16 @@ granted (fails f) e = impossible (cc)
 pub refused : {P : Type 0} {b : Bool} → Decides P b → b ≡ false → P → ⊥
 refused (holds p) e = impossible (cc)
 refused (fails f) e = f
+
+-- what was counted holds, and there are few
+pub record Told (P : Type 0) (n k : ℕ) : Type 0 where
+  pub few : k ≤ 3
+  pub size : n ≡ k
+  pub is : P
+
+pub told : {P : Type 0} {n k : ℕ} {p : Place} → Counts P n p → p ≡ At k → Told P n k
+told {n = n} {k = k} (are h a) e = let z : n ≡ k = (cc) in record { few = rw z at h; size = z; is = a }
+told (none-are f) e = impossible (cc)
 
 -- an equation decides, where it alone is left
 pub last-equal : {P : Type 0} (a b : ℕ) → (a ≡ b → P) → (P → a ≡ b) → Decides P (eqb a b)

@@ -11,7 +11,7 @@ use borrow.Author.Tests.{ne-eqb, not-false}
 use Rattle.format.specs.Dwords.{bits, follows}
 use Rattle.format.specs.Framing.{code, long, sized, lengthOf}
 use Rattle.format.specs.Counts.{within, numbers, lineOf, operandCount, tokenWith}
-use Rattle.format.specs.Declarations.{Layout, inTable, layout, chained, fieldIn, inBounds}
+use Rattle.format.specs.Declarations.{Layout, inTable, layout, chained, fieldIn}
 use Rattle.format.specs.Instructions.{fieldsOf}
 use Rattle.format.specs.Encoder.{at, sizedRow, tokenOfRow, headOfRow}
 use Rattle.format.proofs.Dwords.{impossible}
@@ -24,9 +24,10 @@ use Rattle.instruction.specs.Measure.{Declared, rest}
 use Rattle.instruction.specs.declared.Place.{Place}
 use Rattle.instruction.specs.declared.Place.the-variants.{At, Off}
 use Rattle.instruction_walk.specs.Confirm.{confirmKnown}
-use Rattle.instruction_walk.specs.Walks.{walkedInstruction, Takes, PassesIn, wordsOn, Runs, rowFrom, Decides, holds, Unchained, Headed, Fielded, Pieces, Placed, shortToken, OnlyField, Lone}
+use Rattle.instruction_walk.specs.Walks.{walkedInstruction, Takes, PassesIn, wordsOn, Runs, rowFrom, Decides, holds, Unchained, Headed, Fielded, Pieces, Placed, Fitting, shortToken, OnlyField, Lone}
 use Rattle.instruction_walk.specs.declared.Walked.the-variants.{Is}
 use Rattle.instruction_walk.specs.declared.Parts.the-variants.{To}
+use Rattle.instruction_walk.proofs.Deciding.{granted}
 use Rattle.instruction_walk.proofs.Items.{bounds}
 use Rattle.instruction_walk.proofs.Heads.{no-dword, bare-head}
 use Rattle.instruction_walk.proofs.Runs.{begin, finished, run-takes, first-bounds, third-bounds, all-parts}
@@ -162,20 +163,23 @@ module _ (q : List ℕ) (x : Shape) (g : Declared (at 2 q) x) (b : at 2 q < 2048
       })
 
 -- ---- whether a row has only a field
+in-token : (c f n : ℕ) → c < 2048 → f < 2 ^ 13 → bits 11 23 (c + f * 2 ^ 11 + n * 2 ^ 24) ≡ f
+in-token c f n hc hf = let z : (c + f * 2 ^ 11 + n * 2 ^ 24) / 2 ^ 11 ≡ f + n * 2 ^ 13 = omega arith in rw z (omega arith)
+
 module _ (l : List ℕ) (i : ℕ) (x : Shape) where
-  pub field-row : (getD l (i + 4) 0 ≡ 0) × (getD l (i + 5) 0 ≡ 0) → getD l (i + 6) 0 ≡ 0 → Unchained (rowFrom i l) 0 → getD l (i + 1) 0 < 128 → getD l (i + 7) 0 < 8192 → {t f : ℕ} → t ≡ getD l (i + 2) 0 + getD l (i + 7) 0 * 2048 + getD l (i + 1) 0 * 16777216 →
-      f ≡ fieldIn (fieldOf x) t → f ≡ getD l (i + 7) 0 → {d : Bool} → d ≡ inBounds (fieldOf x) t → d ≡ true → OnlyField (rowFrom i l) x
-  field-row (e₄, e₅) e₆ u h₁ h₇ {t} {f} et ef e₇ ed y =
-      let z : shortToken (rowFrom i l) ≡ t = rw (row-at l i 1 (lit< tt), row-at l i 2 (lit< tt), row-at l i 7 (lit< tt)) (sym et) in
+  pub field-row : (getD l (i + 4) 0 ≡ 0) × (getD l (i + 5) 0 ≡ 0) → getD l (i + 6) 0 ≡ 0 → Unchained (rowFrom i l) 0 → getD l (i + 2) 0 < 2048 → getD l (i + 1) 0 < 128 → Fitting x (getD l (i + 7) 0) → OnlyField (rowFrom i l) x
+  field-row (e₄, e₅) e₆ u h₂ h₁ k =
+      let f : Fitting x (at 7 (rowFrom i l)) = rw (row-at l i 7 (lit< tt)) k in
+      let z : bits 11 23 (shortToken (rowFrom i l)) ≡ at 7 (rowFrom i l) = in-token (at 2 (rowFrom i l)) (at 7 (rowFrom i l)) (at 1 (rowFrom i l)) (omega (arith, row-at l i 2 (lit< tt))) (f .narrow) in
       record {
         no-saturate = row-at l i 4 (lit< tt) ∙ e₄;
         no-test = row-at l i 5 (lit< tt) ∙ e₅;
         no-precise = row-at l i 6 (lit< tt) ∙ e₆;
         no-chain = u;
         short = omega (arith, row-at l i 1 (lit< tt));
-        narrow = omega (arith, row-at l i 7 (lit< tt));
-        field-is = ap (fieldIn (fieldOf x)) z ∙ sym ef ∙ e₇ ∙ sym (row-at l i 7 (lit< tt));
-        bounds = ap (inBounds (fieldOf x)) z ∙ sym ed ∙ y;
+        narrow = f .narrow;
+        field-is = f .field-is _ z;
+        bounds = f .bounds _ z;
       }
 
 -- ---- an operand that stands alone
@@ -248,10 +252,11 @@ module _ (m : Bool) (x : Shape) (rs ws : List ℕ) (r w : ℕ) (hw : w ≤ lengt
         rw z at (all-parts m x rs ws r w hw p ep a ea run _ b _ refl v last end ee)
 
     module _ (l : List ℕ) (i place : ℕ) (h : i + 16 ≤ length l) (hc : getD l (i + 2) 0 < 2048) (g : Declared (getD l (i + 2) 0) x) {c : Bool} (o : c ≡ true → OnlyField (rowFrom i l) x) (hf : not c ≡ false) {d : Bool} (pl : Decides (Placed (rowFrom i l) place (x .kind) r (x .operands) w (end - w)) d) (hd : not d ≡ false) where
-      pub declared-walks : {k n y : ℕ} → k ≡ x .operands → 1 + k + (end - w) ≡ n → y ≡ getD l (i + 1) 0 → y ≡ n → Is (x .operands) n ≡ walkedInstruction (confirmKnown m (rowFrom i l) place (drop (16 * r) rs) (drop w ws) r w)
+      pub declared-walks : {k n y : ℕ} → k ≡ x .operands → 1 + k + (end - w) ≡ n → y ≡ getD l (i + 1) 0 → y ≡ n → Is (getD l (i + 13) 0) n ≡ walkedInstruction (confirmKnown m (rowFrom i l) place (drop (16 * r) rs) (drop w ws) r w)
       declared-walks {k} {n} {y} ek en ey eq =
           let q₂ : at 2 (rowFrom i l) ≡ getD l (i + 2) 0 = row-at l i 2 (lit< tt) in
           let z : at 1 (rowFrom i l) ≡ 1 + (x .operands + (end - w)) = row-at l i 1 (lit< tt) ∙ sym ey ∙ omega arith in
-          let j : x .operands ≡ r + x .operands - r = omega arith in
+          let o₁ : getD l (i + 13) 0 ≡ x .operands = sym (row-at l i 13 (lit< tt)) ∙ granted pl (not-false d hd) .operands-are in
+          let j : getD l (i + 13) 0 ≡ r + x .operands - r = omega arith in
           let s : Pieces (rowFrom i l) (x .operands + (end - w)) = declared-pieces (rowFrom i l) x (rw q₂ g) (omega arith) (o (not-false c hf)) _ z in
           ap (λ (c : ℕ). Is c n) j ∙ walks l i place m rs ws r w h x (g .laid) declared-parts _ _ _ refl pl hd {c = true} (holds s) refl n (sym eq ∙ ey)

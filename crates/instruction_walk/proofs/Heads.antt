@@ -59,7 +59,7 @@ module _ (q : List ℕ) (t : ℕ) (ec : at 2 q ≡ code t) where
       go false true false e = e
       go false false f e = e
 
-  short-row : sized t ≡ false → (chained x ≡ true) ⊎ (at 8 q ≡ 0) → sizedRow q ≡ false
+  pub short-row : sized t ≡ false → (chained x ≡ true) ⊎ (at 8 q ≡ 0) → sizedRow q ≡ false
   unfolding sizedRow sized long
   short-row z h = rw ec (go (eqb (code t) 53) z)
     where

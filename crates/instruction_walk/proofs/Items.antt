@@ -6,15 +6,16 @@ use mathlib.Core.Bool.{Bool}
 use mathlib.Core.Option.{Option, none as nothing, some as just}
 use native.Mathlib.Nat.{add-zero as plus-zero}
 use native.Mathlib.Omega.{arith}
-use lib.ListN.{length, take, drop, length-append, length-drop}
-use lib.Seq.{length-take-le, drop-drop}
+use lib.ListN.{length, take, drop, replicate, length-append, length-drop}
+use lib.Seq.{take-all, length-take-le, drop-drop}
 use Rattle.format.specs.Operands as op
 use Rattle.format.specs.Operands.{Tree, none, plain, node}
-use Rattle.format.specs.Declarations.{Item}
+use Rattle.format.specs.Declarations.{Item, o}
 use Rattle.format.specs.Rows.{treeRows, treeWords, partsRows, partsWords, topLevel}
 use Rattle.instruction_walk.specs.Confirm.{confirmItem, confirmItems}
 use Rattle.operand_walk.specs.Confirm.{_>>=_}
-use Rattle.instruction_walk.specs.Walks.{Sum, off, sum, add, total, sumAt, Takes, takes, lacks, PassesIn}
+use Rattle.instruction_walk.specs.Walks.{Sum, off, sum, add, total, sumAt, Takes, takes, lacks, PassesIn, Runs}
+use Rattle.instruction_walk.specs.declared.Parts.{Parts}
 use Rattle.instruction_walk.specs.declared.Parts.the-variants.{To, Lost}
 use Rattle.instruction.specs.declared.Place.the-variants.{At, Off}
 
@@ -103,6 +104,16 @@ module _ {m : Bool} {rs ws : List ℕ} {r w : ℕ} where
         ap (λ (x : List Item). sumAt m x rs ws r w) (append-assoc a b l) ∙ f (b ++ l) ∙ ap (add (r₁ - r) (w₁ - w) n k) (g l) ∙
         add-add (r₁ - r) (w₁ - w) n k (r₂ - r₁) (w₂ - w₁) n₁ k₁ (sumAt m l rs ws r₂ w₂) ∙ (λ i. add (gap r r₁ r₂ h₁ g₁ i) (gap w w₁ w₂ h₃ g₃ i) (n + n₁) (k + k₁) (sumAt m l rs ws r₂ w₂)))
 
+-- a pool that is lent anew, whole
+pub lent : (l : List ℕ) → take (length l - 0) l ≡ l
+lent l = take-all (length l - 0) l (omega arith)
+
+pub lent-within : (l : List ℕ) {n : ℕ} → n ≤ length l → n ≤ length (take (length l - 0) l)
+lent-within l h = rw (lent l) h
+
+pub lent-runs : (rs ws : List ℕ) {k r w : ℕ} {p : Parts} → Runs k (take (length rs - 0) rs) (take (length ws - 0) ws) r w p → Runs k rs ws r w p
+lent-runs rs ws {k} {r} {w} {p} f m = subst (λ (x : List ℕ). Takes m (replicate k o) k rs x r w p) (lent ws) (subst (λ (x : List ℕ). Takes m (replicate k o) k x (take (length ws - 0) ws) r w p) (lent rs) (f m))
+
 -- the sizes of what stands there
 pub record Bounds (rs ws : List ℕ) (r w r₁ w₁ n : ℕ) : Type 0 where
   pub rows-from : r ≤ r₁
@@ -113,6 +124,9 @@ pub record Bounds (rs ws : List ℕ) (r w r₁ w₁ n : ℕ) : Type 0 where
 
 pub bounds : {m : Bool} {items : List Item} {k : ℕ} {rs ws : List ℕ} {r w r₁ w₁ n : ℕ} → Takes m items k rs ws r w (To r₁ w₁ n) → Bounds rs ws r w r₁ w₁ n
 bounds (takes h₁ h₂ h₃ h₄ h₅ f) = record { rows-from = h₁; rows-to = h₂; words-from = h₃; words-to = h₄; few = h₅ }
+
+pub all-few : {rs ws : List ℕ} {r w r₁ w₁ n : ℕ} → Bounds rs ws r w r₁ w₁ n → n + (length ws - w₁) ≤ length rs + length ws
+all-few b = omega (arith, b .rows-from, b .rows-to, b .words-from, b .words-to, b .few)
 
 -- an item of n words
 module _ {m : Bool} {i : Item} {ws : List ℕ} {w : ℕ} where

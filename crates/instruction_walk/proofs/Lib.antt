@@ -13,4 +13,5 @@ pub mod Tokens
 pub mod SameRows
 pub mod Ways
 pub mod Short
+pub mod Fitting
 pub mod Declared

@@ -29,7 +29,7 @@ use Rattle.instruction_walk.specs.Confirm.{confirmItem}
 use Rattle.instruction_walk.specs.Walks.{add, sumAt, Takes, takes, lacks, PassesIn, wordsOn, Runs}
 use Rattle.instruction_walk.specs.declared.Parts.{Parts}
 use Rattle.instruction_walk.specs.declared.Parts.the-variants.{To, Lost}
-use Rattle.instruction_walk.proofs.Items.{item-step, item-off, Bounds, bounds, takes-none, takes-first, takes-off, takes-then}
+use Rattle.instruction_walk.proofs.Items.{item-step, item-off, Bounds, bounds, all-few, takes-none, takes-first, takes-off, takes-then}
 use Rattle.instruction_walk.proofs.Passing.{words-on}
 
 -- ---- an operand is one part
@@ -129,7 +129,7 @@ module _ {k : ℕ} {rs ws : List ℕ} {r w i r₁ w₁ n : ℕ} (g : Walking k r
   finished h m = let z : i ≡ k = omega (arith, g .some) in rw z at (g .done m)
 
   pub room : (r₁ ≤ r + (length rs / 16 - r)) × (w₁ ≤ length ws) × (n ≤ length rs + length ws)
-  room = let b = bounds (g .done true) in (b .rows-to, b .words-to, omega (arith, b .rows-to, b .rows-from, b .words-to, b .words-from, b .few))
+  room = let b = bounds (g .done true) in (b .rows-to, b .words-to, omega (arith, all-few b))
 
 -- ---- the items of a shape
 module _ (m : Bool) (x : Shape) (rs ws : List ℕ) (r w : ℕ) (h : w ≤ length ws) (p : Place) (e : p ≡ wordsOn (length ws) w (x .before)) where

@@ -2,19 +2,20 @@
 use Prim.Native.Nat.{ℕ, _+_, _-_, _*_, _/_, _%_, _^_, _<_, _≤_}
 use mathlib.Core.Path.{_≡_, refl, sym, ap, _∙_, subst}
 use mathlib.Core.List.{List, [], _∷_}
-use mathlib.Core.Bool.{Bool, true, false, not, cond, _&&_, _||_}
+use mathlib.Core.Logic.{inl}
+use mathlib.Core.Bool.{Bool, true, false, not, cond, _||_}
 use mathlib.Core.Option.{some as just}
 use native.Mathlib.Nat.{mod-one, mul-one}
 use native.Mathlib.Omega.{arith}
-use lib.ListN.{length, getD, drop}
-use lib.Dec.{eqb, lit<}
-use borrow.Author.Tests.{eqb-false, ne-eqb, not-true}
+use lib.ListN.{length, getD, take, drop}
+use lib.Dec.{eqb, ltb, lit<}
+use borrow.Author.Tests.{eqb-false, ne-eqb, not-true, not-false}
 use Rattle.format.specs.Dwords.{bits, follows}
-use Rattle.format.specs.Framing.{code, long, sized, lengthOf}
+use Rattle.format.specs.Framing.{code, sized, lengthOf}
 use Rattle.format.specs.Counts.{within, operandCount, tokenWith}
 use Rattle.format.specs.Declarations.{tail, Layout, layout, chained, fieldIn, inBounds}
 use Rattle.format.specs.Instructions.{fieldsOf}
-use Rattle.format.specs.Encoder.{at, chainOf, sizedRow, tokenOfRow, headOfRow}
+use Rattle.format.specs.Encoder.{at, sizedRow, tokenOfRow, headOfRow}
 use Rattle.format.proofs.Dwords.{impossible}
 use Rattle.layouts.specs.Shapes.{Laid, meant, itemsOf}
 use Rattle.layouts.specs.Table.{plainShape, widthOf}
@@ -23,37 +24,40 @@ use Rattle.layouts.proofs.Others.{counts}
 use Rattle.layouts.proofs.Fields.{value, unbounded}
 use Rattle.operand_walk.proofs.Fields.{row-at}
 use Rattle.instruction.specs.Measure.{classed}
+use Rattle.instruction.specs.declared.Place.{Place}
+use Rattle.instruction.specs.declared.Place.the-variants.{At}
 use Rattle.instruction.proofs.Counted.{unsized}
-use Rattle.instruction_walk.specs.Walks.{Takes, rowFrom, Decides, holds, Unchained, Chained, Headed, Fielded, Pieces, Placed, Counted, Bits, Plain, Known}
-use Rattle.instruction_walk.specs.declared.Walked.{Walked}
-use Rattle.instruction_walk.specs.declared.Walked.the-variants.{Is}
+use Rattle.instruction_walk.specs.Walks.{Takes, Runs, rowFrom, Decides, holds, Counts, Unchained, Headed, Fielded, Pieces, Placed, Counted, Bits, Plain, Ready, chainIn, Linked, Known}
+use Rattle.instruction_walk.specs.declared.Walked.the-variants.{Is, Not}
+use Rattle.instruction_walk.specs.declared.Parts.{Parts}
 use Rattle.instruction_walk.specs.declared.Parts.the-variants.{To}
 use Rattle.operand_walk.specs.Walks.{Ran}
 use Rattle.instruction_walk.proofs.Runs.{run-takes}
-use Rattle.instruction_walk.proofs.Items.{takes-then}
+use Rattle.instruction_walk.proofs.Deciding.{granted, told, word-0}
+use Rattle.instruction_walk.proofs.Items.{bounds, takes-then, lent-runs, all-few}
 use Rattle.instruction_walk.proofs.Passing.{all-words}
-use Rattle.instruction_walk.proofs.Chains.{chain-fits}
-use Rattle.instruction_walk.proofs.Heads.{a-chain, chain-head}
+use Rattle.instruction_walk.proofs.Chains.{bit-below, bit-is}
+use Rattle.instruction_walk.proofs.Heads.{short-row, a-chain, chain-head}
 use Rattle.instruction_walk.proofs.Ways.{walks}
 
 -- ---- the bits of a token of bounded numbers
-record Split (t c s e p n : ℕ) : Type 0 where
+record Split (t c s e p n f : ℕ) : Type 0 where
   code-is : code t ≡ c
   low : bits 11 12 t ≡ 0
   saturate : bits 13 13 t ≡ s
   test : bits 18 18 t ≡ e
   precise : bits 19 22 t ≡ p
   length-is : bits 24 30 t ≡ n
-  top : bits 31 31 t ≡ 0
+  top : bits 31 31 t ≡ f
 
-split : (t c s e p n : ℕ) → t ≡ c + s * 8192 + e * 262144 + p * 524288 + n * 16777216 → c < 2048 → s < 2 → e < 2 → p < 16 → n < 128 → Split t c s e p n
-split t c s e p n z hc hs he hp hn =
-    let d₁₁ : t / 2 ^ 11 ≡ s * 4 + e * 128 + p * 256 + n * 8192 = omega arith in
-    let d₁₃ : t / 2 ^ 13 ≡ s + e * 32 + p * 64 + n * 2048 = omega arith in
-    let d₁₈ : t / 2 ^ 18 ≡ e + p * 2 + n * 64 = omega arith in
-    let d₁₉ : t / 2 ^ 19 ≡ p + n * 32 = omega arith in
-    let d₂₄ : t / 2 ^ 24 ≡ n = omega arith in
-    let d₃₁ : t / 2 ^ 31 ≡ 0 = omega arith in
+split : (t c s e p n f : ℕ) → t ≡ c + s * 8192 + e * 262144 + p * 524288 + n * 16777216 + f * 2147483648 → c < 2048 → s < 2 → e < 2 → p < 16 → n < 128 → f < 2 → Split t c s e p n f
+split t c s e p n f z hc hs he hp hn hf =
+    let d₁₁ : t / 2 ^ 11 ≡ s * 4 + e * 128 + p * 256 + n * 8192 + f * 1048576 = omega arith in
+    let d₁₃ : t / 2 ^ 13 ≡ s + e * 32 + p * 64 + n * 2048 + f * 262144 = omega arith in
+    let d₁₈ : t / 2 ^ 18 ≡ e + p * 2 + n * 64 + f * 8192 = omega arith in
+    let d₁₉ : t / 2 ^ 19 ≡ p + n * 32 + f * 4096 = omega arith in
+    let d₂₄ : t / 2 ^ 24 ≡ n + f * 128 = omega arith in
+    let d₃₁ : t / 2 ^ 31 ≡ f = omega arith in
     record {
       code-is = omega arith;
       low = rw d₁₁ (omega arith);
@@ -61,7 +65,7 @@ split t c s e p n z hc hs he hp hn =
       test = rw d₁₈ (omega arith);
       precise = rw d₁₉ (omega arith);
       length-is = rw d₂₄ (omega arith);
-      top = rw d₃₁;
+      top = rw d₃₁ (omega arith);
     }
 
 -- ---- a plain row's token
@@ -69,37 +73,33 @@ either-way : (b : Bool) (n : ℕ) → n ≡ 0 → cond b n 0 ≡ 0
 either-way true n e = e
 either-way false n e = refl
 
-module _ (q : List ℕ) (k : ℕ) (g : Counted q k) (p : Plain q) (h : at 1 q < 128) where
+-- codes with a count have a chain
+counted-chains : (c k : ℕ) → operandCount c ≡ just k → chained (layout c) ≡ true
+counted-chains c k e = rw (← (counts c k e .meaning))
+
+module _ (q : List ℕ) (k : ℕ) (g : Counted q k) (p : Plain q) (l : Linked q) (h : at 1 q < 128) where
   abbrev c : ℕ
   c = at 2 q
 
   abbrev t : ℕ
   t = tokenOfRow q
 
-  not-53 : eqb c 53 ≡ false
-  unfolding sized
-  not-53 =
+  abbrev f : ℕ
+  f = cond (ltb 0 (at 8 q)) 1 0
+
+  -- its own code is a token with that count
+  unsized-row : sizedRow q ≡ false
+  unsized-row =
       let z : c % 2048 ≡ c = omega (arith, g .below) in
-      go (eqb c 53) (long c) (rw z at (unsized c k (rw z (g .count))))
-    where
-      go : (a b : Bool) → (a || b) ≡ false → a ≡ false
-      go true b e = e
-      go false b e = refl
+      let a : operandCount (code c) ≡ just k = rw z (g .count) in
+      short-row q c (sym z) (unsized c k a) (inl (counted-chains (code c) k a))
 
-  short-row : sizedRow q ≡ false
-  unfolding sizedRow
-  short-row = rw (p .no-chain .bits-are, not-53) (go (eqb c 145 || eqb c 146))
-    where
-      go : (b : Bool) → (b && false) ≡ false
-      go true = refl
-      go false = refl
-
-  made : t ≡ c + at 4 q * 8192 + at 5 q * 262144 + at 6 q * 524288 + at 1 q * 16777216
+  made : t ≡ c + at 4 q * 8192 + at 5 q * 262144 + at 6 q * 524288 + at 1 q * 16777216 + f * 2147483648
   unfolding tokenOfRow
-  made = rw (short-row, p .no-chain .bits-are, p .field-is) (omega arith)
+  made = rw (unsized-row, p .field-is) (omega arith)
 
-  parts : Split t c (at 4 q) (at 5 q) (at 6 q) (at 1 q)
-  parts = split t c (at 4 q) (at 5 q) (at 6 q) (at 1 q) made (g .below) (p .bits-are .first) (p .bits-are .second) (p .precise-is) h
+  parts : Split t c (at 4 q) (at 5 q) (at 6 q) (at 1 q) f
+  parts = split t c (at 4 q) (at 5 q) (at 6 q) (at 1 q) f made (g .below) (p .bits-are .first) (p .bits-are .second) (p .precise-is) h (bit-below (at 8 q) refl)
 
   counted : operandCount (code t) ≡ just k
   counted = rw (parts .code-is) (g .count)
@@ -119,9 +119,12 @@ module _ (q : List ℕ) (k : ℕ) (g : Counted q k) (p : Plain q) (h : at 1 q < 
   unsized-t : sized t ≡ false
   unsized-t = unsized t k counted
 
-  unfollowing : follows t ≡ false
+  following : follows t ≡ ltb 0 (at 8 q)
   unfolding follows
-  unfollowing = rw (parts .top)
+  following = bit-is (ltb 0 (at 8 q)) (parts .top)
+
+  chains : chained x ≡ true
+  chains = counted-chains (code t) k counted
 
   -- it is exact
   other-code : eqb (code t) 190 ≡ false
@@ -146,16 +149,16 @@ module _ (q : List ℕ) (k : ℕ) (g : Counted q k) (p : Plain q) (h : at 1 q < 
     field-is = p .field-is ∙ sym no-field;
   }
 
-  no-top : fieldsOf x t .extended ≡ 0
+  top-bit : fieldsOf x t .extended ≡ f
   unfolding fieldsOf
-  no-top = either-way (chained x || long t) (bits 31 31 t) (parts .top)
+  top-bit = rw chains (parts .top)
 
   own-length : fieldsOf x t .length ≡ at 1 q
   unfolding fieldsOf
   own-length = rw unsized-t (parts .length-is)
 
   exact : t ≡ tokenWith (code t) (fieldsOf x t)
-  exact = omega (arith, made, code-of, fielded .saturate-is, fielded .test-is, fielded .precise-is, p .field-is, fielded .field-is, no-top, own-length)
+  exact = omega (arith, made, code-of, fielded .saturate-is, fielded .test-is, fielded .precise-is, p .field-is, fielded .field-is, top-bit, own-length)
 
   in-bounds : inBounds (x .field) t ≡ true
   in-bounds = ap (λ (z : Layout). inBounds (z .field) t) by-count ∙ sym (unbounded y t (counts (code t) k counted .sound) refl)
@@ -163,22 +166,11 @@ module _ (q : List ℕ) (k : ℕ) (g : Counted q k) (p : Plain q) (h : at 1 q < 
   any-class : (n : ℕ) → classed (x .kind) t n ≡ true
   any-class n = rw by-count
 
-  no-chain : Chained (follows t) (at 8 q) (at 9 q) (at 10 q) (at 11 q)
-  no-chain =
-      let u = p .no-chain in
-      rw (unfollowing, u .bits-are, u .no-first, u .no-second, u .no-third) (chain-fits 0 0 0 0 (omega arith) (refl, refl, refl))
-
-  chains : chained x ≡ true
-  chains = rw by-count
-
-  no-head : headOfRow q ≡ []
-  unfolding chainOf
-  no-head =
-      let u = p .no-chain in
-      a-chain q t code-of unsized-t chains ∙ rw (u .bits-are)
+  chain-is : headOfRow q ≡ chainIn q
+  chain-is = a-chain q t code-of unsized-t chains
 
   head : Headed q x t (headOfRow q)
-  head = chain-head q t code-of unsized-t chains no-chain
+  head = chain-head q t code-of unsized-t chains (rw following l)
 
   token-length : lengthOf t (headOfRow q) ≡ at 1 q
   unfolding lengthOf
@@ -188,9 +180,9 @@ module _ (q : List ℕ) (k : ℕ) (g : Counted q k) (p : Plain q) (h : at 1 q < 
   by-row : layout (at 2 q) ≡ x
   by-row = ap layout code-of
 
-  plain-pieces : (n : ℕ) → at 1 q ≡ 1 + n → Pieces q n
+  plain-pieces : (n : ℕ) → at 1 q ≡ 1 + length (chainIn q) + n → Pieces q n
   plain-pieces n e =
-      let z : at 1 q ≡ 1 + length (headOfRow q) + n = e ∙ rw no-head (omega arith) in
+      let z : at 1 q ≡ 1 + length (headOfRow q) + n = rw chain-is e in
       rw by-row (record {
         token = exact;
         bounds = in-bounds;
@@ -225,13 +217,23 @@ module _ (l : List ℕ) (i : ℕ) where
   pub unextended-row : (getD l (i + 8) 0 ≡ 0) × (getD l (i + 9) 0 ≡ 0) → (getD l (i + 10) 0 ≡ 0) × (getD l (i + 11) 0 ≡ 0) → Unchained (rowFrom i l) 0
   unextended-row (e₈, e₉) (e₁₀, e₁₁) = record { bits-are = row-at l i 8 (lit< tt) ∙ e₈; no-first = row-at l i 9 (lit< tt) ∙ e₉; no-second = row-at l i 10 (lit< tt) ∙ e₁₀; no-third = row-at l i 11 (lit< tt) ∙ e₁₁ }
 
-  pub plain-row : Bits (getD l (i + 2) 0) (getD l (i + 4) 0) (getD l (i + 5) 0) → (getD l (i + 6) 0 < 16) × (getD l (i + 7) 0 ≡ 0) → Unchained (rowFrom i l) 0 → (getD l (i + 2) 0 ≡ 190 → ⊥) → Plain (rowFrom i l)
-  plain-row b (h₆, e₇) u h₂ = record {
+  pub plain-row : Bits (getD l (i + 2) 0) (getD l (i + 4) 0) (getD l (i + 5) 0) → (getD l (i + 6) 0 < 16) × (getD l (i + 7) 0 ≡ 0) → (getD l (i + 2) 0 ≡ 190 → ⊥) → Plain (rowFrom i l)
+  plain-row b (h₆, e₇) h₂ = record {
     code-is = λ z. h₂ (sym (row-at l i 2 (lit< tt)) ∙ z);
     bits-are = rw (row-at l i 2 (lit< tt), row-at l i 4 (lit< tt), row-at l i 5 (lit< tt)) b;
     precise-is = omega (arith, row-at l i 6 (lit< tt));
     field-is = row-at l i 7 (lit< tt) ∙ e₇;
-    no-chain = u;
+  }
+
+  pub ready-row : Plain (rowFrom i l) → {place r w n x₀ x₁₂ x₁₄ x₁₅ : ℕ} → x₀ ≡ getD l i 0 → x₁₂ ≡ getD l (i + 12) 0 → x₁₄ ≡ getD l (i + 14) 0 → x₁₅ ≡ getD l (i + 15) 0 →
+      x₀ ≡ place → x₁₂ ≡ r → r < 2 ^ 32 → x₁₄ ≡ w → x₁₅ ≡ n → Ready (rowFrom i l) place r w n
+  ready-row p e₀ e₁₂ e₁₄ e₁₅ a b h c d = record {
+    place-is = word-0 l i ∙ sym e₀ ∙ a;
+    row-is = row-at l i 12 (lit< tt) ∙ sym e₁₂ ∙ b;
+    row-below = h;
+    word-is = row-at l i 14 (lit< tt) ∙ sym e₁₄ ∙ c;
+    words-are = row-at l i 15 (lit< tt) ∙ sym e₁₅ ∙ d;
+    plain = p;
   }
 
 pub counted-row : (l : List ℕ) (i k : ℕ) → operandCount (getD l (i + 2) 0) ≡ just k → getD l (i + 2) 0 < 2048 → Counted (rowFrom i l) k
@@ -239,10 +241,14 @@ counted-row l i k e h = record { count = rw (row-at l i 2 (lit< tt)) e; below = 
 
 -- ---- walking it
 -- nothing is said
-pub unsaid : {A : Type 0} → 0 < 0 → A
+pub unsaid : {A : Type 0} {n : ℕ} → n < n → A
 unsaid h = impossible (omega arith)
 
-module _ (l : List ℕ) (i place : ℕ) (rs ws : List ℕ) (r w k : ℕ) (h : i + 16 ≤ length l) (hw : w ≤ length ws) (g : Counted (rowFrom i l) k) (p : Plain (rowFrom i l)) {b : Bool} (o : Decides (Placed (rowFrom i l) place 1 r k w (length ws - w)) b) (hb : not b ≡ false) where
+pub untold : {A : Type 0} (i n : ℕ) → Not ≡ Is i n → A
+untold i n e = impossible (cc)
+
+-- a plain row of a code with a count, whose operands stand in front of words as they are
+module _ (l : List ℕ) (i place : ℕ) (rs ws : List ℕ) (r w k : ℕ) (h : i + 16 ≤ length l) (g : Counted (rowFrom i l) k) (p : Plain (rowFrom i l)) (o : Placed (rowFrom i l) place 1 r k w (length ws - w)) (c : Linked (rowFrom i l)) where
   abbrev q₁ : List ℕ
   q₁ = rowFrom i l
 
@@ -252,22 +258,40 @@ module _ (l : List ℕ) (i place : ℕ) (rs ws : List ℕ) (r w k : ℕ) (h : i 
   laid : Laid (getD l (i + 2) 0) s
   laid = counts (getD l (i + 2) 0) k (rw (row-at l i 2 (lit< tt)) at (g .count))
 
-  -- its operands, and the words behind them as they are
-  all : {x : ℕ} (a : Ran rs r w k (length ws) x) (m : Bool) → Takes m (itemsOf s) k rs ws r w (To (r + k) (length ws) (k + (a .past - w) + x + (length ws - a .past)))
+  all : {r₁ v d : ℕ} → Runs k rs ws r w (To r₁ v d) → (m : Bool) → Takes m (itemsOf s) k rs ws r w (To r₁ (length ws) (d + (length ws - v)))
   unfolding itemsOf
-  all a m =
+  all {r₁} {v} a m =
       let z : k + 0 ≡ k = omega arith in
-      rw z at (takes-then {b = tail ∷ []} (run-takes (a .runs 63 ws refl) hw m) (all-words ws (a .past) (a .words-to) m rs (r + k)))
+      rw z at (takes-then {b = tail ∷ []} (a m) (all-words ws v (bounds (a m) .words-to) m rs r₁))
 
-  pub plain-walks : {k₁ x n y : ℕ} → k₁ ≡ k → (x ≡ 0 → ⊥) → (0 < x → Ran rs r w k₁ (length ws) (x - 1)) → k₁ + (length ws - w) + x ≡ n → n < 128 → y ≡ getD l (i + 1) 0 → y ≡ n → Known q₁ place (drop (16 * r) rs) (drop w ws) r w (Is k n)
-  plain-walks {k₁} {x} {n} {y} ek nx t en hn ey eq m =
-      let a = subst (λ (c : ℕ). Ran rs r w c (length ws) (x - 1)) ek (t (omega (arith, nx))) in
-      let d : ℕ = k + (a .past - w) + (x - 1) + (length ws - a .past) in
-      let z : n ≡ 1 + d = omega (arith, a .words-from, a .words-to, nx) in
-      let y₁ : at 1 q₁ ≡ n = row-at l i 1 (lit< tt) ∙ sym ey ∙ eq in
-      let j : k ≡ r + k - r = omega arith in
-      ap (λ (c : ℕ). Is c n) j ∙ walks l i place m rs ws r w h s laid (all a m) _ _ _ refl o hb {c = true} (holds (plain-pieces q₁ k g p (omega arith) d (y₁ ∙ z))) refl n (sym eq ∙ ey)
+  counted-walks : {r₁ v d n : ℕ} → Runs k rs ws r w (To r₁ v d) → 1 + length (chainIn q₁) + d + (length ws - v) ≡ n → n < 128 → getD l (i + 1) 0 ≡ n → Known q₁ place (drop (16 * r) rs) (drop w ws) r w (Is (r₁ - r) n)
+  counted-walks {v = v} {d = d} {n = n} a en hn e m =
+      let y : at 1 q₁ ≡ n = row-at l i 1 (lit< tt) ∙ e in
+      let z : at 1 q₁ ≡ 1 + length (chainIn q₁) + (d + (length ws - v)) = omega arith in
+      walks l i place m rs ws r w h s laid (all a m) _ _ _ refl {b = true} (holds o) refl {c = true} (holds (plain-pieces q₁ k g p c (omega arith) _ z)) refl n (sym e)
 
--- the answer that a number says, if it is not 0
-pub quickly : {f : Bool → Walked} {k c n : ℕ} → c ≡ k → (n ≡ 0 → ⊥) → (0 < n → (m : Bool) → Is k n ≡ f m) → (m : Bool) → Is c n ≡ f m
-quickly {n = n} e h g m = ap (λ (j : ℕ). Is j n) e ∙ g (omega (arith, h)) m
+-- by operands that stand alone
+module _ (l : List ℕ) (i place : ℕ) (rs ws : List ℕ) (r w : ℕ) (h : i + 16 ≤ length l) (hw : w ≤ length ws) (h₃ : getD l (i + 3) 0 ≡ 1) (a : Ready (rowFrom i l) place r w (length ws - w)) where
+  pub quick-walks : {k k₁ x n y : ℕ} → (getD l (i + 13) 0 ≡ k) × Counted (rowFrom i l) k → k₁ ≡ k → (x ≡ 0 → ⊥) → (0 < x → Ran rs r w k₁ (length ws) (x - 1)) → (n < 128 → Linked (rowFrom i l) × (k₁ + (length ws - w) + x + length (chainIn (rowFrom i l)) ≡ n)) →
+      n < 128 → y ≡ getD l (i + 1) 0 → y ≡ n → Known (rowFrom i l) place (drop (16 * r) rs) (drop w ws) r w (Is (getD l (i + 13) 0) n)
+  quick-walks {k} {k₁} {x} {n} (e₁₃, g) ek nx t chain hn ey e m =
+      let a₁ = subst (λ (c : ℕ). Ran rs r w c (length ws) (x - 1)) ek (t (omega (arith, nx))) in
+      let o : Placed (rowFrom i l) place 1 r k w (length ws - w) = record { place-is = a .place-is; kind-is = row-at l i 3 (lit< tt) ∙ h₃; row-is = a .row-is; operands-are = row-at l i 13 (lit< tt) ∙ e₁₃; word-is = a .word-is; words-are = a .words-are } in
+      let c = chain hn in
+      let z : 1 + length (chainIn (rowFrom i l)) + (k + (a₁ .past - w) + (x - 1)) + (length ws - a₁ .past) ≡ n = omega (arith, a₁ .words-from, a₁ .words-to, nx, c .1) in
+      let j : getD l (i + 13) 0 ≡ r + k - r = omega arith in
+      ap (λ (b : ℕ). Is b n) j ∙ counted-walks l i place rs ws r w k h g (a .plain) o (c .0) (run-takes (a₁ .runs 63 ws refl) hw) z hn (sym ey ∙ e) m
+
+-- by operands one after the other, in pools that are lent anew
+module _ (l : List ℕ) (i place : ℕ) (rs ws : List ℕ) (r w k : ℕ) {p : Parts} (run : Runs k (take (length rs - 0) rs) (take (length ws - 0) ws) r w p) {r₁ v d : ℕ} (ep : p ≡ To r₁ v d) where
+  ran : Runs k rs ws r w (To r₁ v d)
+  ran = lent-runs rs ws (subst (Runs k (take (length rs - 0) rs) (take (length ws - 0) ws) r w) ep run)
+
+  pub ran-to : (r ≤ r₁) × (v ≤ length ws) × (d + (length ws - v) ≤ length rs + length ws)
+  ran-to = let b = bounds (ran true) in (b .rows-from, b .words-to, all-few b)
+
+  pub one-by-one : i + 16 ≤ length l → Counted (rowFrom i l) k → Plain (rowFrom i l) → {b : Bool} → Decides (Placed (rowFrom i l) place 1 r k w (length ws - w)) b → not b ≡ false → {q : Place} → Counts (Linked (rowFrom i l)) (length (chainIn (rowFrom i l))) q → {c : ℕ} → q ≡ At c →
+      1 + c + d + (length ws - v) < 128 → {y : ℕ} → y ≡ getD l (i + 1) 0 → y ≡ 1 + c + d + (length ws - v) → Known (rowFrom i l) place (drop (16 * r) rs) (drop w ws) r w (Is (r₁ - r) (1 + c + d + (length ws - v)))
+  one-by-one h g pl {b} o hb t ec hn ey e =
+      let u = told t ec in
+      counted-walks l i place rs ws r w k h g pl (granted o (not-false b hb)) (u .is) ran (ap (λ (j : ℕ). 1 + j + d + (length ws - v)) (u .size)) hn (sym ey ∙ e)

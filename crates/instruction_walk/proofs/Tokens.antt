@@ -24,7 +24,7 @@ use Rattle.instruction.specs.Measure.{classed}
 use Rattle.instruction.specs.declared.Place.{Place}
 use Rattle.instruction.specs.declared.Place.the-variants.{At, Off}
 use Rattle.instruction_walk.specs.Walks.{rowFrom, Decides, holds, fails, Counts, are, none-are, Headed, Fielded, Sized, Exact, Pieces}
-use Rattle.instruction_walk.proofs.Deciding.{granted, refused}
+use Rattle.instruction_walk.proofs.Deciding.{granted, refused, Told, told as counted}
 use Rattle.instruction_walk.proofs.Heads.{sized-dword}
 
 -- ---- the token that a row tells
@@ -129,20 +129,11 @@ module _ (l : List ℕ) (o n : ℕ) (s : Shape) (laid : Laid (at 2 (rowFrom o l)
                     go (none-are g) z = fails (λ p. g (rw same-layout (known p .head)))
 
                 module _ (k : ℕ) (ek : p ≡ At k) where
-                  record Told : Type 0 where
-                    few : length e ≤ 3
-                    size : length e ≡ k
-                    head : Headed q (layout (code t)) t e
-
-                  head-told : Told
-                  head-told = go d₅ ek
-                    where
-                      go : {p : Place} → Counts (Headed q (layout (code t)) t e) (length e) p → p ≡ At k → Told
-                      go (are j a) z = record { few = j; size = (cc); head = a }
-                      go (none-are g) z = impossible (cc)
+                  head-told : Told (Headed q (layout (code t)) t e) (length e) k
+                  head-told = counted d₅ ek
 
                   pub few : k ≤ 3
-                  few = omega (arith, head-told .few, head-told .size)
+                  few = head-told .few
 
                   -- the length, whether it is in the token or in the next dword
                   length-is : (j : ℕ) → getD l (o + 1) 0 ≡ j → lengthOf t e ≡ cond (sized t) j (bits 24 30 t)
@@ -150,7 +141,7 @@ module _ (l : List ℕ) (o n : ℕ) (s : Shape) (laid : Laid (at 2 (rowFrom o l)
                   length-is j z = go (sized t) refl
                     where
                       go : (b : Bool) → sized t ≡ b → cond b (getD e 0 0) (bits 24 30 t) ≡ cond b j (bits 24 30 t)
-                      go true y = rw (sized-dword q t code-is y (head-told .head)) (row-at l o 1 (lit< tt) ∙ z)
+                      go true y = rw (sized-dword q t code-is y (head-told .is)) (row-at l o 1 (lit< tt) ∙ z)
                       go false y = refl
 
                   pub decided : {b : Bool} → Decides (Sized (getD l (o + 1) 0) t (1 + k + n)) b → Decides (Pieces q n) b
@@ -162,7 +153,7 @@ module _ (l : List ℕ) (o n : ℕ) (s : Shape) (laid : Laid (at 2 (rowFrom o l)
                     dwords-are = row-at l o 1 (lit< tt) ∙ z .row-is ∙ ap (λ (j : ℕ). 1 + j + n) (sym (head-told .size));
                     code-is = code-is;
                     fields-are = rw (← ef) (granted d₄ (not-false b₄ h₄));
-                    head = rw (← same-layout) (head-told .head);
+                    head = rw (← same-layout) (head-told .is);
                   }))
                   decided (fails g) = fails (λ p. g (record {
                     row-is = sym (row-at l o 1 (lit< tt)) ∙ known p .dwords-are ∙ ap (λ (j : ℕ). 1 + j + n) (head-told .size);

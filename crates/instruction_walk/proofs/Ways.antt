@@ -27,7 +27,7 @@ use Rattle.instruction_walk.specs.declared.Walked.{Walked}
 use Rattle.instruction_walk.specs.declared.Walked.the-variants.{Is, Not}
 use Rattle.instruction_walk.specs.declared.Parts.{Parts}
 use Rattle.instruction_walk.specs.declared.Parts.the-variants.{To, Lost}
-use Rattle.instruction_walk.proofs.Items.{Bounds, bounds}
+use Rattle.instruction_walk.proofs.Items.{Bounds, bounds, all-few}
 use Rattle.instruction_walk.proofs.Deciding.{granted, refused}
 use Rattle.instruction_walk.proofs.SameRows.{row-length, size, confirmed, unconfirmed, read-not, unread-not}
 
@@ -89,7 +89,7 @@ module _ (l : List ℕ) (o place : ℕ) (m : Bool) (rs ws : List ℕ) (r w : ℕ
       sizes = bounds here
 
       pub sizes-few : n ≤ length rs + length ws
-      sizes-few = let b = sizes in omega (arith, b .rows-from, b .rows-to, b .words-to, b .few)
+      sizes-few = omega (arith, all-few sizes)
 
       sums : Found items (r₁ - r) (w₁ - w) n (s .operands)
       unfolding sumAt

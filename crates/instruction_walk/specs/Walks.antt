@@ -1,5 +1,5 @@
 -- What walking over the rows and words of an instruction answers.
-use Rattle.format.specs.Basis.{ℕ, _+_, _-_, _*_, _/_, _%_, _^_, _<_, _≤_, _≡_, List, [], _∷_, _++_, Option, none as nothing, some as just, Bool, true, false, cond, length, take, drop, replicate, leb}
+use Rattle.format.specs.Basis.{ℕ, _+_, _-_, _*_, _/_, _%_, _^_, _<_, _≤_, _≡_, List, [], _∷_, _++_, Option, none as nothing, some as just, Bool, true, false, cond, length, take, drop, replicate, ltb, leb}
 use Rattle.format.specs.Dwords.{bits}
 use Rattle.format.specs.Framing.{code, long, sized, lengthOf}
 use Rattle.format.specs.Counts.{within, operandCount, Fields, tokenWith, rising, ofType, typeBits}
@@ -161,17 +161,46 @@ pub record Bits (c saturate test : ℕ) : Type 0 where
   pub second : test < 2
   pub tested : test ≡ cond (within c (3 ∷ 5 ∷ 8 ∷ 13 ∷ 31 ∷ 63 ∷ [])) test 0
 
--- a row without field and extensions, of other numbers that a token holds as they are; the field bits of 190 have saturate's
+-- a row without a field, of other numbers that a token holds as they are; the field bits of 190 have saturate's
 pub record Plain (q : List ℕ) : Type 0 where
   pub code-is : at 2 q ≡ 190 → ⊥
   pub bits-are : Bits (at 2 q) (at 4 q) (at 5 q)
   pub precise-is : at 6 q < 16
   pub field-is : at 7 q ≡ 0
-  pub no-chain : Unchained q 0
+
+-- a plain row that tells this place, first operand row, first word and number of words
+pub record Ready (q : List ℕ) (place r w n : ℕ) : Type 0 where
+  pub place-is : at 0 q ≡ place
+  pub row-is : at 12 q ≡ r
+  pub row-below : r < 2 ^ 32
+  pub word-is : at 14 q ≡ w
+  pub words-are : at 15 q ≡ n
+  pub plain : Plain q
+
+-- the chain that words 8 to 11 of a row tell
+abbrev pub chainIn : List ℕ → List ℕ
+chainIn q = chainOf (at 8 q) (at 9 q) (at 10 q) (at 11 q)
+
+abbrev pub Linked : List ℕ → Type 0
+Linked q = Chained (ltb 0 (at 8 q)) (at 8 q) (at 9 q) (at 10 q) (at 11 q)
 
 -- what walking answers of a known code, in either model
 abbrev pub Known : List ℕ → ℕ → List ℕ → List ℕ → ℕ → ℕ → Walked → Type 0
 Known q place rs ws r w a = (m : Bool) → a ≡ walkedInstruction (confirmKnown m q place rs ws r w)
+
+-- the same, if there is an answer
+abbrev pub KnownIf : List ℕ → ℕ → List ℕ → List ℕ → ℕ → ℕ → Walked → Type 0
+KnownIf q place rs ws r w a = (i n : ℕ) → a ≡ Is i n → Known q place rs ws r w a
+
+-- a declaration's field begins at bit 11 or 16
+abbrev pub Stepped : Shape → Type 0
+Stepped x = (x .first ≡ 11 → ⊥) → x .first ≡ 16
+
+-- a token that has f in bits 11 to 23 holds it as its field, within its bounds
+pub record Fitting (x : Shape) (f : ℕ) : Type 0 where
+  pub narrow : f < 2 ^ 13
+  pub field-is : (t : ℕ) → bits 11 23 t ≡ f → fieldIn (fieldOf x) t ≡ f
+  pub bounds : (t : ℕ) → bits 11 23 t ≡ f → inBounds (fieldOf x) t ≡ true
 
 -- a short declaration's token: its code, its field and its length
 abbrev pub shortToken : List ℕ → ℕ

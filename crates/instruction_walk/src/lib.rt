@@ -12,7 +12,7 @@ ghost use Rattle.format.specs.Encoder as e;
 ghost use Rattle.layouts.specs.Shapes.{Sound, Laid, listed, itemsOf};
 ghost use Rattle.instruction.specs.Measure.{Listed, rest, fieldsIn, Declared};
 ghost use Rattle.instruction_walk.specs.Confirm as c;
-ghost use Rattle.instruction_walk.specs.Walks.{walkedInstruction, Takes, PassesIn, Passes, wordsOn, Runs, rowFrom, Decides, Counts, Unchained, Chained, Headed, Fielded, Sized, Pieces, Placed, Bare, Counted, Bits, Plain, Known, OnlyField, Lone};
+ghost use Rattle.instruction_walk.specs.Walks.{walkedInstruction, Takes, PassesIn, Passes, wordsOn, Runs, rowFrom, Decides, Counts, Unchained, Chained, Headed, Fielded, Sized, Pieces, Placed, Bare, Counted, Bits, Plain, Ready, Linked, chainIn, Known, KnownIf, Stepped, Fitting, OnlyField, Lone};
 use header::long;
 use header::sized;
 use instruction::Fields;
@@ -27,7 +27,6 @@ use layouts::Shape;
 use layouts::counted_layout;
 use layouts::declaration;
 use layouts::declared;
-use layouts::field_of;
 use layouts::in_bounds;
 use layouts::operand_count;
 use layouts::uncounted_layout;
@@ -146,7 +145,7 @@ fn operands_of(operands: &[u32], words: &[u32], row: usize, word: usize, count: 
     Parts::To(r, w, n)
 }
 
-// Walks the items of a shape.
+// Walks the items of a shape. The pools are lent afresh for the operands, which leaves these in registers.
 fn parts_of(
     operands: &[u32],
     words: &[u32],
@@ -161,7 +160,9 @@ fn parts_of(
     let Place::At(a) = past_words(words, word, s.before) else {
         return Parts::Lost;
     };
-    let Parts::To(r, b, n) = operands_of(operands, words, row, a, s.operands) else {
+    let rows = &operands[0..operands.len()];
+    let all = &words[0..words.len()];
+    let Parts::To(r, b, n) = operands_of(rows, all, row, a, s.operands) else {
         return Parts::Lost;
     };
     let Place::At(w) = past_rest(words, b, s, model51) else {
@@ -504,7 +505,7 @@ fn unextended(instructions: &[u32], first: usize) -> bool
     pair(instructions[first + 8], instructions[first + 9]) == 0
 }
 
-// Whether a row has no field or extension, and other numbers that a token holds as they are.
+// Whether a row has no field, and other numbers that a token holds as they are.
 fn plain(instructions: &[u32], first: usize) -> bool
     requires { ⌜ first + 16 ≤ length (now instructions) ⌝ }
     ensures { λ r. ⌜ (r ≡ true → Plain (rowFrom first (now (instructions .entry)))) ⌝ }
@@ -521,9 +522,6 @@ fn plain(instructions: &[u32], first: usize) -> bool
     if 16 <= pair(instructions[first + 6], instructions[first + 7]) {
         return false;
     }
-    if !unextended(instructions, first) {
-        return false;
-    }
     instructions[first + 2] != 190
 }
 
@@ -534,8 +532,75 @@ fn behind(n: usize, at: usize) -> usize
     if n < at { 0 } else { n - at }
 }
 
-// Counts the dwords of an instruction of a code with so many operands, where its row is plain and the operands stand
-// alone: behind them are words as they are. 0 says nothing.
+// Whether a row is plain and tells this place, first operand row, first word and number of words.
+fn ready(
+    instructions: &[u32],
+    first: usize,
+    place: usize,
+    row: usize,
+    word: usize,
+    words: usize,
+) -> bool
+    requires { ⌜ first + 16 ≤ length (now instructions) ⌝ }
+    ensures { λ r. ⌜ (r ≡ true → Ready (rowFrom first (now (instructions .entry))) place row word words) ⌝ }
+{
+    if wide(instructions[first]) != place {
+        return false;
+    }
+    if wide(instructions[first + 12]) != row {
+        return false;
+    }
+    if wide(instructions[first + 14]) != word {
+        return false;
+    }
+    if wide(instructions[first + 15]) != words {
+        return false;
+    }
+    plain(instructions, first)
+}
+
+// The number of operands that a row tells, if it is its code's; or else 7.
+fn count_of(instructions: &[u32], first: usize) -> u32
+    requires { ⌜ (first + 16 ≤ length (now instructions)) × (getD (now instructions) (first + 2) 0 < 2048) ⌝ }
+    ensures { λ n. ⌜ (n < 7 → (getD (now (instructions .entry)) (first + 13) 0 ≡ n) × Counted (rowFrom first (now (instructions .entry))) n) ⌝ }
+{
+    let n = operand_count(instructions[first + 2]);
+    if instructions[first + 13] == n { n } else { 7 }
+}
+
+// Counts the dwords of the chain that words 8 to 11 of a row tell; Off: no chain is told so.
+fn linked(instructions: &[u32], first: usize) -> Place
+    requires { ⌜ first + 16 ≤ length (now instructions) ⌝ }
+    ensures { λ r. ⌜ Counts (Linked (rowFrom first (now (instructions .entry)))) (length (chainIn (rowFrom first (now (instructions .entry))))) r ⌝ }
+{
+    let bits = instructions[first + 8];
+    chained(
+        extended(bits),
+        bits,
+        instructions[first + 9],
+        instructions[first + 10],
+        instructions[first + 11],
+    )
+}
+
+// Adds the dwords of the chain that a row tells; 128, more than a token can tell, where no chain is told so. Most rows tell
+// of none; the pool is lent afresh for the others, which leaves the callers' in registers.
+fn with_chain(instructions: &[u32], first: usize, dwords: usize) -> usize
+    requires { ⌜ (first + 16 ≤ length (now instructions)) × (dwords < 2 ^ 63) ⌝ }
+    ensures { λ n. ⌜ (n < 128 → Linked (rowFrom first (now (instructions .entry))) × (dwords + length (chainIn (rowFrom first (now (instructions .entry)))) ≡ n)) ⌝ }
+{
+    if unextended(instructions, first) {
+        return dwords;
+    }
+    let rows = &instructions[0..instructions.len()];
+    let Place::At(c) = linked(rows, first) else {
+        return 128;
+    };
+    dwords + c
+}
+
+// Counts the dwords of an instruction of a code with a count, where its row is plain and the operands stand alone: behind
+// them are words as they are. 0 says nothing.
 fn quick(
     instructions: &[u32],
     first: usize,
@@ -544,27 +609,27 @@ fn quick(
     row: usize,
     words: &[u32],
     word: usize,
-    count: u32,
 ) -> usize
-    requires { ⌜ (first + 16 ≤ length (now instructions)) × (word ≤ length (now words)) × (count < 7) × Counted (rowFrom first (now instructions)) count ⌝ }
-    ensures { λ n. ⌜ (0 < n → Known (rowFrom first (now (instructions .entry))) place (drop (16 * row) (now (operands .entry))) (drop word (now (words .entry))) row word (Walked.Is count n)) ⌝ }
+    requires { ⌜ (first + 16 ≤ length (now instructions)) × (word ≤ length (now words)) × (getD (now instructions) (first + 2) 0 < 2048) × (getD (now instructions) (first + 3) 0 ≡ 1) × (length (now words) < 2 ^ 32) ⌝ }
+    ensures { λ n. ⌜ (0 < n → Known (rowFrom first (now (instructions .entry))) place (drop (16 * row) (now (operands .entry))) (drop word (now (words .entry))) row word (Walked.Is (getD (now (instructions .entry)) (first + 13) 0) n)) ⌝ }
 {
-    if !plain(instructions, first) {
+    let rest = words.len() - word;
+    if !ready(instructions, first, place, row, word, rest) {
         return 0;
     }
-    let rest = words.len() - word;
-    if !placed(instructions, first, place, 1, row, count, word, rest) {
+    let count = count_of(instructions, first);
+    if 7 <= count {
         return 0;
     }
     let k = wide(count);
-    if behind(operands.len() / 16, row) < k {
+    if operands.len() / 16 < row + k {
         return 0;
     }
     let more = operand_walk::run(operands, row, word, k, words.len());
     if more == 0 {
         return 0;
     }
-    let n = k + rest + more;
+    let n = with_chain(instructions, first, k + rest + more);
     if 128 <= n {
         return 0;
     }
@@ -575,9 +640,71 @@ fn quick(
     }
 }
 
+// Walks an instruction of a code with so many operands, where its row is plain, by its operands one after the other. Not
+// says nothing.
+fn by_count(
+    instructions: &[u32],
+    first: usize,
+    place: usize,
+    operands: &[u32],
+    row: usize,
+    words: &[u32],
+    word: usize,
+    count: u32,
+) -> Walked
+    requires { ⌜ (first + 16 ≤ length (now instructions)) × (word ≤ length (now words)) × Counted (rowFrom first (now instructions)) count ⌝ }
+    ensures { λ r. ⌜ KnownIf (rowFrom first (now (instructions .entry))) place (drop (16 * row) (now (operands .entry))) (drop word (now (words .entry))) row word r ⌝ }
+{
+    if !plain(instructions, first) {
+        return Walked::Not;
+    }
+    let rest = words.len() - word;
+    if !placed(instructions, first, place, 1, row, count, word, rest) {
+        return Walked::Not;
+    }
+    let rows = &operands[0..operands.len()];
+    let all = &words[0..words.len()];
+    let Parts::To(r, w, d) = operands_of(rows, all, row, word, count) else {
+        return Walked::Not;
+    };
+    let Place::At(c) = linked(instructions, first) else {
+        return Walked::Not;
+    };
+    let n = 1 + c + d + (words.len() - w);
+    if 128 <= n {
+        return Walked::Not;
+    }
+    if wide(instructions[first + 1]) != n {
+        return Walked::Not;
+    }
+    let k = r - row;
+    Walked::Is { rows: k, dwords: n }
+}
+
+// Whether a token holds a field as it is, within its bounds. No field that begins at another bit than 11 is bounded.
+fn field_fits(s: Shape, f: u32) -> bool
+    requires { ⌜ Sound s × Stepped s ⌝ }
+    ensures { λ r. ⌜ (r ≡ true → Fitting s f) ⌝ }
+{
+    if s.first != 11 {
+        if f % 32 != 0 {
+            return false;
+        }
+        return f / 32 < 1u32 << s.width;
+    }
+    if 1u32 << s.width <= f {
+        return false;
+    }
+    if s.bounded == 0 {
+        return true;
+    }
+    let x = f % (1u32 << s.bounded);
+    (s.lo <= x) & (x <= s.hi)
+}
+
 // Whether a row of a short declaration has nothing but a field, which its token holds within its bounds.
 fn only_field(instructions: &[u32], first: usize, s: Shape) -> bool
-    requires { ⌜ (first + 16 ≤ length (now instructions)) × (getD (now instructions) (first + 2) 0 < 2048) × Sound s ⌝ }
+    requires { ⌜ (first + 16 ≤ length (now instructions)) × (getD (now instructions) (first + 2) 0 < 2048) × Sound s × Stepped s ⌝ }
     ensures { λ r. ⌜ (r ≡ true → OnlyField (rowFrom first (now (instructions .entry))) s) ⌝ }
 {
     if pair(instructions[first + 4], instructions[first + 5]) != 0 {
@@ -593,20 +720,12 @@ fn only_field(instructions: &[u32], first: usize, s: Shape) -> bool
     if 128 <= n {
         return false;
     }
-    let f = instructions[first + 7];
-    if 0x2000 <= f {
-        return false;
-    }
-    let t = instructions[first + 2] + f * 0x800 + n * 0x100_0000;
-    if field_of(s, t) != f {
-        return false;
-    }
-    in_bounds(s, t)
+    field_fits(s, instructions[first + 7])
 }
 
 // Past an operand that stands alone and has no extension, if there is to be one. Off says nothing.
 fn past_lone(operands: &[u32], words: &[u32], row: usize, at: usize, count: u32) -> Place
-    requires { ⌜ (at ≤ length (now words)) × (count ≤ 1) ⌝ }
+    requires { ⌜ (at ≤ length (now words)) × (count ≤ 1) × (length (now words) < 2 ^ 32) ⌝ }
     ensures { λ r. ⌜ Lone count (now (operands .entry)) (now (words .entry)) row at r ⌝ }
 {
     if count == 0 {
@@ -633,8 +752,8 @@ fn declared_dwords(
     word: usize,
     s: Shape,
 ) -> usize
-    requires { ⌜ (first + 16 ≤ length (now instructions)) × (word ≤ length (now words)) × (getD (now instructions) (first + 2) 0 < 2048) × Declared (getD (now instructions) (first + 2) 0) s ⌝ }
-    ensures { λ n. ⌜ (0 < n → Walked.Is (s .operands) n ≡ walkedInstruction (c.confirmKnown model51 (rowFrom first (now (instructions .entry))) place (drop (16 * row) (now (operands .entry))) (drop word (now (words .entry))) row word)) ⌝ }
+    requires { ⌜ (first + 16 ≤ length (now instructions)) × (word ≤ length (now words)) × (getD (now instructions) (first + 2) 0 < 2048) × Declared (getD (now instructions) (first + 2) 0) s × Stepped s × (length (now words) < 2 ^ 32) ⌝ }
+    ensures { λ n. ⌜ (0 < n → Walked.Is (getD (now (instructions .entry)) (first + 13) 0) n ≡ walkedInstruction (c.confirmKnown model51 (rowFrom first (now (instructions .entry))) place (drop (16 * row) (now (operands .entry))) (drop word (now (words .entry))) row word)) ⌝ }
 {
     if !only_field(instructions, first, s) {
         return 0;
@@ -658,45 +777,6 @@ fn declared_dwords(
     } else {
         0
     }
-}
-
-// Walks an instruction of a known code, by the short way of a declaration if that says something. Codes with a count come here too: with
-// two calls `known` would not be copied into its caller, which would be slower.
-fn declared_or_known(
-    instructions: &[u32],
-    at: usize,
-    place: usize,
-    model51: bool,
-    operands: &[u32],
-    row: usize,
-    words: &[u32],
-    word: usize,
-) -> Walked
-    requires { ⌜ (at + 16 ≤ length (now instructions)) × (word ≤ length (now words)) × (getD (now instructions) (at + 2) 0 < 2048) ⌝ }
-    ensures { λ r. ⌜ r ≡ walkedInstruction (c.confirmKnown model51 (rowFrom at (now (instructions .entry))) place (drop (16 * row) (now (operands .entry))) (drop word (now (words .entry))) row word) ⌝ }
-{
-    let d = declaration(instructions[at + 2]);
-    if d != 0 {
-        let s = declared(d);
-        let n = declared_dwords(
-            instructions,
-            at,
-            place,
-            model51,
-            operands,
-            row,
-            words,
-            word,
-            s,
-        );
-        if n != 0 {
-            return Walked::Is {
-                rows: wide(s.operands),
-                dwords: n,
-            };
-        }
-    }
-    known(instructions, at, place, model51, operands, row, words, word)
 }
 
 // The length of the instruction whose dwords are the words from a word on, as they tell it.
@@ -770,6 +850,46 @@ fn unread(
     Walked::Not
 }
 
+// Counts the dwords of the instruction that `walk` would walk, of a code with a count or of a declaration, where its row is
+// usual and its operands stand alone: they are as many as the row tells. 0 says nothing.
+pub fn usual(
+    instructions: &[u32],
+    at: usize,
+    place: usize,
+    ceiling: u32,
+    model51: bool,
+    operands: &[u32],
+    row: usize,
+    words: &[u32],
+    word: usize,
+) -> usize
+    requires { ⌜ (at + 16 ≤ length (now instructions)) × (word ≤ length (now words)) × (ceiling ≤ 2048) × (length (now words) < 2 ^ 32) ⌝ }
+    ensures { λ n. ⌜ (0 < n → Walked.Is (getD (now (instructions .entry)) (at + 13) 0) n ≡ walkedInstruction (c.confirmInstruction ceiling model51 (take 16 (drop at (now (instructions .entry)))) place (drop (16 * row) (now (operands .entry))) (drop word (now (words .entry))) row word)) ⌝ }
+{
+    let code = instructions[at + 2];
+    if ceiling <= code {
+        return 0;
+    }
+    if instructions[at + 3] == 1 {
+        return quick(instructions, at, place, operands, row, words, word);
+    }
+    let d = declaration(code);
+    if d == 0 {
+        return 0;
+    }
+    declared_dwords(
+        instructions,
+        at,
+        place,
+        model51,
+        operands,
+        row,
+        words,
+        word,
+        declared(d),
+    )
+}
+
 // Walks the instruction whose row begins at a word of the pool and whose token stands at a place, from an operand row on and
 // a word on; the words end with the instruction's own. Codes from the ceiling on are unread.
 pub fn walk(
@@ -792,13 +912,18 @@ pub fn walk(
     }
     let count = operand_count(code);
     if count < 7 {
-        let n = quick(instructions, at, place, operands, row, words, word, count);
-        if n != 0 {
-            return Walked::Is {
-                rows: wide(count),
-                dwords: n,
-            };
+        if let Walked::Is { rows, dwords } = by_count(
+            instructions,
+            at,
+            place,
+            operands,
+            row,
+            words,
+            word,
+            count,
+        ) {
+            return Walked::Is { rows, dwords };
         }
     }
-    declared_or_known(instructions, at, place, model51, operands, row, words, word)
+    known(instructions, at, place, model51, operands, row, words, word)
 }

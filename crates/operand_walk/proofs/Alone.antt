@@ -1,31 +1,31 @@
--- The row of an operand that stands alone: its numbers are those of a dword, and it is confirmed.
+-- The row of an operand whose numbers are those of a dword: it is confirmed, alone or with what stands right behind it.
 use Prim.Native.Nat.{ℕ, zero, suc, _+_, _-_, _*_, _/_, _%_, _^_, _<_, _≤_}
-use mathlib.Core.Path.{_≡_, refl, sym, ap, _∙_}
+use mathlib.Core.Path.{_≡_, refl, sym, ap, _∙_, subst}
 use mathlib.Core.Bool.{Bool, true, false, cond, not, _&&_, _||_}
-use mathlib.Core.List.{List, [], _∷_, _++_}
-use mathlib.Core.Option.{some as just}
-use native.Mathlib.Nat.{add-zero}
+use mathlib.Core.List.{List, [], _∷_}
 use native.Mathlib.Omega.{arith}
-use lib.ListN.{length, getD, take, drop, length-append}
-use lib.Seq.{length-take-le}
+use lib.ListN.{length, getD, drop, length-drop}
 use lib.Dec.{eqb, ltb}
-use lib.Bits.{bitOr, or-add-and, and-le-l, and-le-r}
-use borrow.Author.Tests.{le-leb, eqb-true, eqb-false, eq-eqb, ne-eqb, lt-ltb, not-true, not-false}
+use lib.Pow.{pow-pos}
+use borrow.Author.Tests.{eqb-true, eqb-false, eq-eqb, ne-eqb, lt-ltb, ltb-true, not-true}
 use Rattle.format.specs.Dwords.{bitsFrom, bits}
 use Rattle.format.specs.Operands as op
-use Rattle.format.specs.Operands.{Tree, none, plain, node, form, selection, typeOf, dimension, reprs, repr, immediate, immediates, exactDword, exactExtension, own, nests, known, dwords}
-use Rattle.format.specs.Rows.{wordPlace, childRow, placed, treeWords, treeRows, operandRow}
-use Rattle.format.specs.Encoder.{at, extensionOf, operandDword}
+use Rattle.format.specs.Operands.{form, selection, typeOf, dimension, reprs, repr, immediate, immediates, exactDword, exactExtension, own, nests, known}
+use Rattle.format.specs.Rows.{wordPlace, childRow, placed}
+use Rattle.format.specs.Encoder.{at, extensionOf, operandDword, same}
 use Rattle.format.proofs.Dwords.{impossible}
-use Rattle.format.proofs.Rows.{four-lengths}
 use Rattle.format.proofs.Encoder.{same-refl}
 use Rattle.tokens.proofs.Fields.{chosen, counted, low}
-use Rattle.operand_walk.specs.Confirm.{Confirmer, confirmIndex, confirmed, confirmImmediates, confirmIndices, confirmFront, confirm}
-use Rattle.operand_walk.specs.Walks.{walked, Plain, Childless, Lone, Bare}
+use Rattle.operand_walk.specs.Confirm.{confirmIndex, confirm}
+use Rattle.operand_walk.specs.Walks.{walked, reached, there, rowAt, extensions, guessed, frontFor, backFor, Common, Plain, Starts, Lone, Bare, Leading, Nested}
+use Rattle.operand_walk.specs.declared.Place.{Place}
 use Rattle.operand_walk.specs.declared.Walked.the-variants.{Is}
+use Rattle.operand_walk.specs.declared.Step.the-variants.{To}
+use Rattle.operand_walk.specs.declared.Guess.the-variants.{Of}
 use Rattle.operand_walk.proofs.SameRows.{numbersAt, listed}
+use Rattle.operand_walk.proofs.Walks.{outer, inner, frontSame, backSame, leaf-yes, tree-yes, again, by-leaf, by-tree}
 
--- ---- the fields of a dword without representations, whose x is 1 with an extension
+-- ---- the fields of a dword, whose x is 1 with an extension
 abbrev selections : ℕ → ℕ
 selections f = getD (1 ∷ 1 ∷ 16 ∷ 256 ∷ 4 ∷ []) f 0
 
@@ -33,37 +33,37 @@ form-of : (t a b : ℕ) → t % 2 ^ 2 ≡ a → bits 2 3 t ≡ b → form t ≡ 
 unfolding form
 form-of t a b ea eb = rw (ea, eb)
 
-module _ (c s k d x : ℕ) (hc : c < 16) where
+module _ (c s k d p x : ℕ) (hc : c < 16) where
   abbrev sum : ℕ
-  sum = c + s * 2 ^ 4 + k * 2 ^ 12 + d * 2 ^ 20 + 0 * 2 ^ 22 + x * 2 ^ 31
+  sum = c + s * 2 ^ 4 + k * 2 ^ 12 + d * 2 ^ 20 + p * 2 ^ 22 + x * 2 ^ 31
 
   low-count : sum % 2 ^ 2 ≡ c % 4
   low-count = omega arith
 
   low-mode : bits 2 3 sum ≡ c / 4
-  low-mode = let z : sum / 2 ^ 2 ≡ c / 4 + s * 4 + k * 1024 + d * 262_144 + x * 536_870_912 = omega arith in rw z (omega arith)
+  low-mode = let z : sum / 2 ^ 2 ≡ c / 4 + s * 4 + k * 1024 + d * 262_144 + p * 1_048_576 + x * 536_870_912 = omega arith in rw z (omega arith)
 
-  above-low : sum / 2 ^ 4 ≡ s + k * 256 + d * 65_536 + x * 134_217_728
+  above-low : sum / 2 ^ 4 ≡ s + k * 256 + d * 65_536 + p * 262_144 + x * 134_217_728
   above-low = omega arith
 
-form-is : (f s k d x : ℕ) → s < selections f → form (op.dwordWith f s k d 0 x) ≡ f
-form-is zero s k d x h = form-of _ 0 0 (low-count 0 s k d x (omega arith)) (low-mode 0 s k d x (omega arith))
-form-is (suc zero) s k d x h = form-of _ 1 0 (low-count 1 s k d x (omega arith)) (low-mode 1 s k d x (omega arith))
-form-is (suc (suc zero)) s k d x h = form-of _ 2 0 (low-count 2 s k d x (omega arith)) (low-mode 2 s k d x (omega arith))
-form-is (suc (suc (suc zero))) s k d x h = form-of _ 2 1 (low-count 6 s k d x (omega arith)) (low-mode 6 s k d x (omega arith))
-form-is (suc (suc (suc (suc zero)))) s k d x h = form-of _ 2 2 (low-count 10 s k d x (omega arith)) (low-mode 10 s k d x (omega arith))
-form-is (suc (suc (suc (suc (suc f))))) s k d x h = impossible (omega arith)
+form-is : (f s k d p x : ℕ) → s < selections f → form (op.dwordWith f s k d p x) ≡ f
+form-is zero s k d p x h = form-of _ 0 0 (low-count 0 s k d p x (omega arith)) (low-mode 0 s k d p x (omega arith))
+form-is (suc zero) s k d p x h = form-of _ 1 0 (low-count 1 s k d p x (omega arith)) (low-mode 1 s k d p x (omega arith))
+form-is (suc (suc zero)) s k d p x h = form-of _ 2 0 (low-count 2 s k d p x (omega arith)) (low-mode 2 s k d p x (omega arith))
+form-is (suc (suc (suc zero))) s k d p x h = form-of _ 2 1 (low-count 6 s k d p x (omega arith)) (low-mode 6 s k d p x (omega arith))
+form-is (suc (suc (suc (suc zero)))) s k d p x h = form-of _ 2 2 (low-count 10 s k d p x (omega arith)) (low-mode 10 s k d p x (omega arith))
+form-is (suc (suc (suc (suc (suc f))))) s k d p x h = impossible (omega arith)
 
-selection-is : (f s k d x : ℕ) → s < selections f → selection (op.dwordWith f s k d 0 x) ≡ s
+selection-is : (f s k d p x : ℕ) → s < selections f → selection (op.dwordWith f s k d p x) ≡ s
 unfolding selection
-selection-is f s k d x h = rw (form-is f s k d x h) (go f h)
+selection-is f s k d p x h = rw (form-is f s k d p x h) (go f h)
   where
-    go : (f : ℕ) → s < selections f → bitsFrom 4 (chosen f) (op.dwordWith f s k d 0 x) ≡ s
-    go zero h = rw (above-low 0 s k d x (omega arith)) (omega arith)
-    go (suc zero) h = rw (above-low 1 s k d x (omega arith)) (omega arith)
-    go (suc (suc zero)) h = rw (above-low 2 s k d x (omega arith)) (omega arith)
-    go (suc (suc (suc zero))) h = rw (above-low 6 s k d x (omega arith)) (omega arith)
-    go (suc (suc (suc (suc zero)))) h = rw (above-low 10 s k d x (omega arith)) (omega arith)
+    go : (f : ℕ) → s < selections f → bitsFrom 4 (chosen f) (op.dwordWith f s k d p x) ≡ s
+    go zero h = rw (above-low 0 s k d p x (omega arith)) (omega arith)
+    go (suc zero) h = rw (above-low 1 s k d p x (omega arith)) (omega arith)
+    go (suc (suc zero)) h = rw (above-low 2 s k d p x (omega arith)) (omega arith)
+    go (suc (suc (suc zero))) h = rw (above-low 6 s k d p x (omega arith)) (omega arith)
+    go (suc (suc (suc (suc zero)))) h = rw (above-low 10 s k d p x (omega arith)) (omega arith)
     go (suc (suc (suc (suc (suc f))))) h = impossible (omega arith)
 
 -- its lowest twelve bits are the form's and the selection's
@@ -75,54 +75,83 @@ low-below (suc (suc (suc zero))) s h = omega arith
 low-below (suc (suc (suc (suc zero)))) s h = omega arith
 low-below (suc (suc (suc (suc (suc f))))) s h = impossible (omega arith)
 
-module _ (l k d x : ℕ) (hl : l < 2 ^ 12) (hk : k < 2 ^ 8) (hd : d < 4) (hx : x < 2) where
+module _ (l k d p x : ℕ) (hl : l < 2 ^ 12) (hk : k < 2 ^ 8) (hd : d < 4) (hp : p < 2 ^ 9) (hx : x < 2) where
   abbrev upper : ℕ
-  upper = l + k * 2 ^ 12 + d * 2 ^ 20 + 0 * 2 ^ 22 + x * 2 ^ 31
+  upper = l + k * 2 ^ 12 + d * 2 ^ 20 + p * 2 ^ 22 + x * 2 ^ 31
 
   upper-type : upper / 2 ^ 12 % 2 ^ 8 ≡ k
-  upper-type = let z : upper / 2 ^ 12 ≡ k + d * 256 + x * 524_288 = omega arith in rw z (omega arith)
+  upper-type = let z : upper / 2 ^ 12 ≡ k + d * 256 + p * 1024 + x * 524_288 = omega arith in rw z (omega arith)
 
   upper-dimension : upper / 2 ^ 20 % 2 ^ 2 ≡ d
-  upper-dimension = let z : upper / 2 ^ 20 ≡ d + x * 2048 = omega arith in rw z (omega arith)
+  upper-dimension = let z : upper / 2 ^ 20 ≡ d + p * 4 + x * 2048 = omega arith in rw z (omega arith)
 
-  upper-none : (upper / 2 ^ 22 ≡ x * 512) × (upper / 2 ^ 25 ≡ x * 64) × (upper / 2 ^ 28 ≡ x * 8) × (upper / 2 ^ 31 ≡ x)
-  upper-none = (omega arith, omega arith, omega arith, omega arith)
+  upper-reprs : upper / 2 ^ 22 ≡ p + x * 512
+  upper-reprs = omega arith
 
-no-reprs : (x d : ℕ) → d < 4 → x * 512 % 2 ^ (3 * d) ≡ 0
-no-reprs x zero h = omega arith
-no-reprs x (suc zero) h = omega arith
-no-reprs x (suc (suc zero)) h = omega arith
-no-reprs x (suc (suc (suc zero))) h = omega arith
-no-reprs x (suc (suc (suc (suc d)))) h = impossible (omega arith)
+  upper-high : (upper / 2 ^ 25 ≡ p / 8 + x * 64) × (upper / 2 ^ 28 ≡ p / 64 + x * 8) × (upper / 2 ^ 31 ≡ x)
+  upper-high = (omega arith, omega arith, omega arith)
 
-module _ (f s k d x : ℕ) (hs : s < selections f) (hk : k < 2 ^ 8) (hd : d < 4) (hx : x < 2) where
+-- representations of so many indices
+few-reprs : (p d : ℕ) → d < 4 → p < 2 ^ (3 * d) → p < 2 ^ 9
+few-reprs p zero h l = omega arith
+few-reprs p (suc zero) h l = omega arith
+few-reprs p (suc (suc zero)) h l = omega arith
+few-reprs p (suc (suc (suc zero))) h l = omega arith
+few-reprs p (suc (suc (suc (suc d)))) h l = impossible (omega arith)
+
+these-reprs : (p x d : ℕ) → d < 4 → p < 2 ^ (3 * d) → (p + x * 512) % 2 ^ (3 * d) ≡ p
+these-reprs p x zero h l = omega arith
+these-reprs p x (suc zero) h l = omega arith
+these-reprs p x (suc (suc zero)) h l = omega arith
+these-reprs p x (suc (suc (suc zero))) h l = omega arith
+these-reprs p x (suc (suc (suc (suc d)))) h l = impossible (omega arith)
+
+record Parts (t f s k d p : ℕ) : Type 0 where
+  form-is : form t ≡ f
+  selection-is : selection t ≡ s
+  type-is : typeOf t ≡ k
+  dimension-is : dimension t ≡ d
+  reprs-are : reprs t ≡ p
+  repr-is : (i : ℕ) → i < 3 → repr i t ≡ cond (ltb i d) (p / 2 ^ (3 * i) % 2 ^ 3) 8
+  exact-is : exactDword t ≡ true
+
+module _ (f s k d p x : ℕ) (hs : s < selections f) (hk : k < 2 ^ 8) (hd : d < 4) (hp : p < 2 ^ (3 * d)) (hx : x < 2) where
   abbrev t : ℕ
-  t = op.dwordWith f s k d 0 x
+  t = op.dwordWith f s k d p x
+
+  hp₉ : p < 2 ^ 9
+  hp₉ = few-reprs p d hd hp
 
   type-is : typeOf t ≡ k
-  type-is = upper-type _ k d x (low-below f s hs) hk hd hx
+  type-is = upper-type _ k d p x (low-below f s hs) hk hd hp₉ hx
 
   dimension-is : dimension t ≡ d
-  dimension-is = upper-dimension _ k d x (low-below f s hs) hk hd hx
+  dimension-is = upper-dimension _ k d p x (low-below f s hs) hk hd hp₉ hx
 
-  high-is : (t / 2 ^ 22 ≡ x * 512) × (t / 2 ^ 25 ≡ x * 64) × (t / 2 ^ 28 ≡ x * 8) × (t / 2 ^ 31 ≡ x)
-  high-is = upper-none _ k d x (low-below f s hs) hk hd hx
+  first-is : t / 2 ^ 22 ≡ p + x * 512
+  first-is = upper-reprs _ k d p x (low-below f s hs) hk hd hp₉ hx
 
-  reprs-is : reprs t ≡ 0
+  high-is : (t / 2 ^ 25 ≡ p / 8 + x * 64) × (t / 2 ^ 28 ≡ p / 64 + x * 8) × (t / 2 ^ 31 ≡ x)
+  high-is = upper-high _ k d p x (low-below f s hs) hk hd hp₉ hx
+
+  reprs-are : reprs t ≡ p
   unfolding reprs
-  reprs-is = rw (dimension-is, high-is .0) (no-reprs x d hd)
+  reprs-are = rw (dimension-is, first-is) (these-reprs p x d hd hp)
 
-  -- representation 0 for each index that there is
-  repr-is : (i : ℕ) → i < 3 → repr i t ≡ cond (ltb i d) 0 8
+  -- the representation of each index that there is
+  repr-is : (i : ℕ) → i < 3 → repr i t ≡ cond (ltb i d) (p / 2 ^ (3 * i) % 2 ^ 3) 8
   unfolding repr
-  repr-is zero h = let z : x * 512 % 2 ^ 3 ≡ 0 = omega arith in rw (dimension-is, high-is .0, z)
-  repr-is (suc zero) h = let z : x * 64 % 2 ^ 3 ≡ 0 = omega arith in rw (dimension-is, high-is .1, z)
-  repr-is (suc (suc zero)) h = let z : x * 8 % 2 ^ 3 ≡ 0 = omega arith in rw (dimension-is, high-is .2, z)
+  repr-is zero h = let z : (p + x * 512) % 2 ^ 3 ≡ p / 2 ^ 0 % 2 ^ 3 = omega arith in rw (dimension-is, first-is, z)
+  repr-is (suc zero) h = let z : (p / 8 + x * 64) % 2 ^ 3 ≡ p / 2 ^ 3 % 2 ^ 3 = omega arith in rw (dimension-is, high-is .0, z)
+  repr-is (suc (suc zero)) h = let z : (p / 64 + x * 8) % 2 ^ 3 ≡ p / 2 ^ 6 % 2 ^ 3 = omega arith in rw (dimension-is, high-is .1, z)
   repr-is (suc (suc (suc i))) h = impossible (omega arith)
 
   exact-is : exactDword t ≡ true
   unfolding exactDword
-  exact-is = let z : x % 2 ^ 1 ≡ x = omega arith in eq-eqb t _ (sym (rw (form-is f s k d x hs, selection-is f s k d x hs, type-is, dimension-is, reprs-is, high-is .3, z)))
+  exact-is = let z : x % 2 ^ 1 ≡ x = omega arith in eq-eqb t _ (sym (rw (form-is f s k d p x hs, selection-is f s k d p x hs, type-is, dimension-is, reprs-are, high-is .2, z)))
+
+  parts : Parts t f s k d p
+  parts = record { form-is = form-is f s k d p x hs; selection-is = selection-is f s k d p x hs; type-is = type-is; dimension-is = dimension-is; reprs-are = reprs-are; repr-is = repr-is; exact-is = exact-is }
 
 -- ---- the extension of signs, if there are any
 record Signs (v : ℕ) : Type 0 where
@@ -147,15 +176,6 @@ unfolding extensionOf
 some-signs zero h = absurd (h refl)
 some-signs (suc v) h = refl
 
--- ---- an index of one dword; one past the dimension
-index-one : (p : Confirmer) (rs : List ℕ) (x : ℕ) (l : List ℕ) (r w : ℕ) → confirmIndex p 0 rs (x ∷ l) r w ≡ just (plain (x ∷ []) none)
-unfolding confirmIndex known own nests
-index-one p rs x l r w = rw (le-leb 1 (length (x ∷ l)) (omega arith))
-
-index-past : (p : Confirmer) (rs ws : List ℕ) (r w : ℕ) → confirmIndex p 8 rs ws r w ≡ just (plain [] none)
-unfolding confirmIndex known own nests
-index-past p rs ws r w = rw (le-leb 0 (length ws) (omega arith))
-
 -- ---- types 4 and 5
 kind-yes : (k : ℕ) → k / 2 ≡ 2 → (eqb k 4 || eqb k 5) ≡ true
 kind-yes k h = go (eqb k 4) refl
@@ -167,131 +187,187 @@ kind-yes k h = go (eqb k 4) refl
 kind-no : (k : ℕ) → (k / 2 ≡ 2 → ⊥) → (eqb k 4 || eqb k 5) ≡ false
 kind-no k h = rw (ne-eqb k 4 (λ z. h (omega arith)), ne-eqb k 5 (λ z. h (omega arith)))
 
--- ---- the row in front is one of type k, form f, selection s, signs v and dimension d, with m immediates at i and index dwords at a and b,
--- n dwords in all
-abbrev row : ℕ → ℕ → ℕ → ℕ → ℕ → ℕ → ℕ → ℕ → ℕ → ℕ → List ℕ
-row k f s v d i m a b n = k ∷ f ∷ s ∷ v ∷ i ∷ m ∷ d ∷ 0 ∷ a ∷ b ∷ 0 ∷ 0 ∷ 0 ∷ 0 ∷ 1 ∷ n ∷ []
+-- ---- an index, and what a row has for it: its word place a and its child row c
+record Index (k : ℕ) (rs ws : List ℕ) (i r w r₁ w₁ d a c : ℕ) : Type 0 where
+  step : To r₁ w₁ d ≡ reached r w (there (confirmIndex (confirm k) i) rs ws r w)
+  place : a ≡ wordPlace i w
+  child : c ≡ childRow i r
 
-row-is : (q : List ℕ) → 16 ≤ length q → Plain q → Childless q → {d i m a b n : ℕ} → at 4 q ≡ i → at 5 q ≡ m → at 6 q ≡ d → at 8 q ≡ a → at 9 q ≡ b → at 15 q ≡ n → take 16 q ≡ row (at 0 q) (at 1 q) (at 2 q) (at 3 q) d i m a b n
-unfolding numbersAt
-row-is q h p z ei em ed ea eb en =
-    listed 16 0 q h ∙
-    (λ j. at 0 q ∷ at 1 q ∷ at 2 q ∷ at 3 q ∷ ei j ∷ em j ∷ ed j ∷ p .reprs j ∷ ea j ∷ eb j ∷ p .third j ∷ z .first j ∷ z .second j ∷ z .last j ∷ p .rows j ∷ en j ∷ [])
+module _ (k : ℕ) (rs ws : List ℕ) (r w : ℕ) (lr : 16 * r ≤ length rs) where
+  -- one dword; none, past the dimension
+  plain-index : (b : Bool) → w + cond b 1 0 ≤ length ws → {a c : ℕ} → a ≡ placed b w → c ≡ 0 → Index k rs ws (cond b 0 8) r w r (w + cond b 1 0) (cond b 1 0) a c
+  unfolding known own nests
+  plain-index true l ea ec = record { step = outer k 0 rs ws r w lr true refl refl 1 refl (length ws - w) refl (omega arith) false refl refl; place = ea; child = ec }
+  plain-index false l ea ec = record { step = outer k 8 rs ws r w lr true refl refl 0 refl (length ws - w) refl (omega arith) false refl refl; place = ea; child = ec }
 
--- it is the row that the reader writes
-confirmed-is : (q : List ℕ) (r w t : ℕ) (e m : List ℕ) (a b c : Tree) → operandRow r w t e m a b c ≡ q → confirmed q r w t e m a b c ≡ just (node t e m a b c)
-unfolding confirmed
-confirmed-is q r w t e m a b c h = rw (h, same-refl q)
+  -- an operand, behind a dword or not
+  operand-index : (o : ℕ) → o < 2 → w + o ≤ length ws → {n s d : ℕ} → Is n s d ≡ walked (there (confirm k) rs ws r (w + o)) → {a c : ℕ} → a ≡ placed (ltb 0 o) w → c ≡ r → Index k rs ws (2 + o) r w (r + n) (w + o + s) (o + d) a c
+  unfolding known own nests
+  operand-index zero h l e ea ec = record { step = inner k 2 rs ws r w lr true refl refl 0 refl (length ws - w) refl (omega arith) true refl e refl; place = ea; child = ec }
+  operand-index (suc zero) h l e ea ec = record { step = inner k 3 rs ws r w lr true refl refl 1 refl (length ws - w) refl (omega arith) true refl e refl; place = ea; child = ec }
+  operand-index (suc (suc o)) h l e ea ec = impossible (omega arith)
 
-module _ (f s k v : ℕ) (hs : s < selections f) (hk : k < 2 ^ 8) (hv : v < 4) (r w : ℕ) where
-  abbrev exts : List ℕ
-  exts = extensionOf v
+-- ---- a row whose numbers are those of a dword and an extension
+pub record Told (q : List ℕ) : Type 0 where
+  long : 16 ≤ length q
+  type : at 0 q < 2 ^ 8
+  selection : at 2 q < selections (at 1 q)
+  signs : at 3 q < 4
+  dimension : at 6 q < 4
+  reprs : at 7 q < 2 ^ (3 * at 6 q)
 
-  abbrev of : ℕ → ℕ
-  of d = op.dwordWith f s k d 0 (length exts)
+abbrev extras : List ℕ → ℕ
+extras q = length (extensionOf (at 3 q))
 
-  hx : length exts < 2
-  hx = signs v hv .most
+abbrev dwordOf : List ℕ → ℕ
+dwordOf q = op.dwordWith (at 1 q) (at 2 q) (at 0 q) (at 6 q) (at 7 q) (extras q)
 
-  module _ (q : List ℕ) (h : 16 ≤ length q) (d i m a b n : ℕ) (hd : d < 4) (e : take 16 q ≡ row k f s v d i m a b n) (left : ℕ) (ws : List ℕ) where
-    opened : confirm (suc left) q ws r w ≡ cond (immediate (of d)) (confirmImmediates (row k f s v d i m a b n) (of d) exts ws r w) (confirmIndices (confirm left) (row k f s v d i m a b n) (of d) exts (drop 16 q) ws r w)
-    unfolding confirm confirmFront operandDword
-    opened = rw (le-leb 16 (length q) h, e, exact-is f s k d (length exts) hs hk hd hx, signs v hv .exact)
+abbrev extensionIn : List ℕ → ℕ
+extensionIn q = getD (extensionOf (at 3 q)) 0 0
 
-    indexed : (k / 2 ≡ 2 → ⊥) → confirm (suc left) q ws r w ≡ confirmIndices (confirm left) (row k f s v d i m a b n) (of d) exts (drop 16 q) ws r w
+-- with m immediates, which stand at w
+pub record Leaf (q : List ℕ) (w m : ℕ) : Type 0 where
+  pub long : 16 ≤ length q
+  pub plain : Plain q
+  pub kind : at 0 q / 2 ≡ 2
+  pub place : at 4 q ≡ w
+  pub number : at 5 q ≡ m
+  pub counted-by : m ≡ counted (at 1 q)
+  pub indices : (at 6 q ≡ 0) × (at 7 q ≡ 0)
+  pub words : (at 8 q ≡ 0) × (at 9 q ≡ 0)
+  pub others : (at 10 q ≡ 0) × (at 11 q ≡ 0)
+  pub dwords : at 15 q ≡ 1 + extras q + m
+
+-- with d indices of a dword each, which stand at w
+pub record Flat (q : List ℕ) (w d : ℕ) : Type 0 where
+  pub long : 16 ≤ length q
+  pub plain : Plain q
+  pub starts : Starts q w
+  pub some : 0 < d
+  pub most : d < 4
+  pub indices : (at 6 q ≡ d) × (at 7 q ≡ 0)
+  pub second : at 9 q ≡ placed (ltb 1 d) (w + 1)
+  pub third : at 10 q ≡ placed (ltb 2 d) (w + 1 + cond (ltb 1 d) 1 0)
+  pub child : at 11 q ≡ 0
+  pub dwords : at 15 q ≡ 1 + d + extras q
+
+flags : (d : ℕ) → 0 < d → d < 4 → 1 + cond (ltb 1 d) 1 0 + cond (ltb 2 d) 1 0 ≡ d
+flags zero h l = impossible (omega arith)
+flags (suc zero) h l = refl
+flags (suc (suc zero)) h l = refl
+flags (suc (suc (suc zero))) h l = refl
+flags (suc (suc (suc (suc d)))) h l = impossible (omega arith)
+
+pub told : (q : List ℕ) → 16 ≤ length q → at 0 q < 2 ^ 8 → at 2 q < selections (at 1 q) → at 3 q < 4 → {d p : ℕ} → (at 6 q ≡ d) × (at 7 q ≡ p) → d < 4 → p < 2 ^ (3 * d) → Told q
+told q h k s v e l m = record { long = h; type = k; selection = s; signs = v; dimension = rw (e .0) l; reprs = rw (e .0, e .1) m }
+
+same-of : (x y : List ℕ) → x ≡ y → same x y ≡ true
+same-of x y e = rw e (same-refl y)
+
+module _ (rs : List ℕ) (r : ℕ) (g : Told (drop (16 * r) rs)) where
+  abbrev q : List ℕ
+  q = drop (16 * r) rs
+
+  abbrev x : ℕ
+  x = extensionIn q
+
+  hx : extras q < 2
+  hx = signs (at 3 q) (g .signs) .most
+
+  its : Parts (dwordOf q) (at 1 q) (at 2 q) (at 0 q) (at 6 q) (at 7 q)
+  its = parts (at 1 q) (at 2 q) (at 0 q) (at 6 q) (at 7 q) (extras q) (g .selection) (g .type) (g .dimension) (g .reprs) hx
+
+  row-there : 16 * r + 16 ≤ length rs
+  row-there = omega (arith, g .long, length-drop (16 * r) rs)
+
+  guess-is : Of (dwordOf q) x ≡ guessed (operandDword (rowAt r rs)) (extensionOf (at 3 (rowAt r rs)))
+  unfolding guessed operandDword numbersAt
+  guess-is = rw (listed 16 0 q (g .long), its .exact-is, signs (at 3 q) (g .signs) .exact)
+
+  repr-of : {d p : ℕ} → at 6 q ≡ d → at 7 q ≡ p → (i : ℕ) → i < 3 → cond (ltb i d) (p / 2 ^ (3 * i) % 2 ^ 3) 8 ≡ repr i (dwordOf q)
+  repr-of ed ep i h = sym (its .repr-is i h ∙ (λ j. cond (ltb i (ed j)) (ep j / 2 ^ (3 * i) % 2 ^ 3) 8))
+
+  front-same : (i m : ℕ) → at 4 q ≡ placed (ltb 0 m) i → at 5 q ≡ m → true ≡ frontSame rs r (dwordOf q) x i m
+  unfolding frontFor numbersAt
+  front-same i m e₄ e₅ =
+      let e₀ = sym (its .type-is) in
+      let e₁ = sym (its .form-is) in
+      let e₂ = sym (its .selection-is) in
+      let e₃ : at 3 q ≡ op.modifiers (extensions x) = sym (ap op.modifiers (again (at 3 q)) ∙ signs (at 3 q) (g .signs) .again) in
+      let e₆ = sym (its .dimension-is) in
+      let e₇ = sym (its .reprs-are) in
+      sym (same-of _ _ (listed 8 0 q (omega (arith, g .long)) ∙ (λ j. e₀ j ∷ e₁ j ∷ e₂ j ∷ e₃ j ∷ e₄ j ∷ e₅ j ∷ e₆ j ∷ e₇ j ∷ [])))
+
+  back-same : (a b c : Place) (rows ds : ℕ) → at 8 q ≡ wordPlace (repr 0 (dwordOf q)) (a .1) → at 9 q ≡ wordPlace (repr 1 (dwordOf q)) (b .1) → at 10 q ≡ wordPlace (repr 2 (dwordOf q)) (c .1) →
+      at 11 q ≡ childRow (repr 0 (dwordOf q)) (a .0) → at 12 q ≡ childRow (repr 1 (dwordOf q)) (b .0) → at 13 q ≡ childRow (repr 2 (dwordOf q)) (c .0) → at 14 q ≡ rows → at 15 q ≡ ds → true ≡ backSame rs r (dwordOf q) a b c rows ds
+  unfolding backFor numbersAt
+  back-same a b c rows ds e₈ e₉ e₁₀ e₁₁ e₁₂ e₁₃ e₁₄ e₁₅ =
+      sym (same-of _ _ (listed 8 8 q (omega (arith, g .long)) ∙ (λ j. e₈ j ∷ e₉ j ∷ e₁₀ j ∷ e₁₁ j ∷ e₁₂ j ∷ e₁₃ j ∷ e₁₄ j ∷ e₁₅ j ∷ [])))
+
+  module _ (left : ℕ) (hl : left ≡ 0 → ⊥) (ws : List ℕ) (w : ℕ) where
+    -- with indices
+    indices-walk : (at 0 q / 2 ≡ 2 → ⊥) → at 4 q ≡ 0 → at 5 q ≡ 0 → {i₀ i₁ i₂ : ℕ} → i₀ ≡ repr 0 (dwordOf q) → i₁ ≡ repr 1 (dwordOf q) → i₂ ≡ repr 2 (dwordOf q) →
+        {r₁ w₁ d₀ r₂ w₂ d₁ r₃ w₃ d₂ : ℕ} → Index (left - 1) rs ws i₀ (r + 1) w r₁ w₁ d₀ (at 8 q) (at 11 q) → Index (left - 1) rs ws i₁ r₁ w₁ r₂ w₂ d₁ (at 9 q) (at 12 q) → Index (left - 1) rs ws i₂ r₂ w₂ r₃ w₃ d₂ (at 10 q) (at 13 q) →
+        at 14 q ≡ r₃ - r → at 15 q ≡ 1 + extras q + d₀ + d₁ + d₂ → Is (r₃ - r) (w₃ - w) (1 + extras q + d₀ + d₁ + d₂) ≡ walked (there (confirm left) rs ws r w)
     unfolding immediate
-    indexed g = opened ∙ rw (type-is f s k d (length exts) hs hk hd hx, kind-no k g)
+    indices-walk k e₄ e₅ {i₀} {i₁} {i₂} f₀ f₁ f₂ {r₁} {w₁} {d₀} {r₂} {w₂} {d₁} a b c er ed =
+        let z : immediate (dwordOf q) ≡ false = rw (its .type-is, kind-no (at 0 q) k) in
+        let y : extras q ≡ length (extensions x) = ap length (sym (again (at 3 q))) in
+        let u = back-same (r + 1, w) (r₁, w₁) (r₂, w₂) _ _ (a .place ∙ (λ j. wordPlace (f₀ j) w)) (b .place ∙ (λ j. wordPlace (f₁ j) w₁)) (c .place ∙ (λ j. wordPlace (f₂ j) w₂)) (a .child ∙ (λ j. childRow (f₀ j) (r + 1))) (b .child ∙ (λ j. childRow (f₁ j) r₁)) (c .child ∙ (λ j. childRow (f₂ j) r₂)) er ed in
+        by-tree left rs ws r w hl (omega (arith, row-there)) (dwordOf q) x guess-is false (sym z) refl
+        (tree-yes (left - 1) rs ws r w (dwordOf q) x row-there i₀ f₀ (a .step) i₁ f₁ (b .step) i₂ f₂ (c .step) (extras q) y true (front-same w 0 e₄ e₅) refl true u refl)
 
-    immediately : k / 2 ≡ 2 → confirm (suc left) q ws r w ≡ confirmImmediates (row k f s v d i m a b n) (of d) exts ws r w
-    unfolding immediate
-    immediately g = opened ∙ rw (type-is f s k d (length exts) hs hk hd hx, kind-yes k g)
+    -- with immediates
+    immediates-walk : {m : ℕ} → Leaf q w m → 0 < m → w + m ≤ length ws → Is 1 m (at 15 q) ≡ walked (there (confirm left) rs ws r w)
+    unfolding immediate immediates own nests
+    immediates-walk {m} a hm l =
+        let z : immediate (dwordOf q) ≡ true = rw (its .type-is, kind-yes (at 0 q) (a .kind)) in
+        let y : extras q ≡ length (extensions x) = ap length (sym (again (at 3 q))) in
+        let p : true ≡ ltb 0 m = sym (lt-ltb 0 m hm) in
+        let f₀ : 8 ≡ repr 0 (dwordOf q) = repr-of (a .indices .0) (a .indices .1) 0 (omega arith) in
+        let f₁ : 8 ≡ repr 1 (dwordOf q) = repr-of (a .indices .0) (a .indices .1) 1 (omega arith) in
+        let f₂ : 8 ≡ repr 2 (dwordOf q) = repr-of (a .indices .0) (a .indices .1) 2 (omega arith) in
+        let u = back-same (r + 1, w + m) (r + 1, w + m) (r + 1, w + m) _ _ (a .words .0 ∙ (λ j. wordPlace (f₀ j) (w + m))) (a .words .1 ∙ (λ j. wordPlace (f₁ j) (w + m))) (a .others .0 ∙ (λ j. wordPlace (f₂ j) (w + m))) (a .others .1 ∙ (λ j. childRow (f₀ j) (r + 1))) (a .plain .common .second ∙ (λ j. childRow (f₁ j) (r + 1))) (a .plain .common .third ∙ (λ j. childRow (f₂ j) (r + 1))) (a .plain .common .rows) (a .dwords) in
+        let d : at 6 q ≡ dimension (dwordOf q) = sym (its .dimension-is) in
+        let c : m ≡ immediates (dwordOf q) = a .counted-by ∙ ap counted (sym (its .form-is)) in
+        ap (λ (j : ℕ). Is 1 m j) (a .dwords) ∙
+        by-leaf left rs ws r w hl (omega (arith, row-there)) (dwordOf q) x guess-is true (sym z) refl
+        (leaf-yes rs ws r w (dwordOf q) x row-there (at 6 q) d (a .indices .0) m c (length ws - w) refl (omega arith) (extras q) y true (front-same w m (a .place ∙ (λ j. placed (p j) w)) (a .number)) refl true u refl)
 
-  -- the row of a dimension, with the representations i₀, i₁ and i₂
-  module _ (d : ℕ) (hd : d < 4) {i₀ i₁ i₂ : ℕ} (e₀ : repr 0 (of d) ≡ i₀) (e₁ : repr 1 (of d) ≡ i₁) (e₂ : repr 2 (of d) ≡ i₂) (m : List ℕ) (a b c : Tree) where
-    abbrev w₁ : ℕ
-    w₁ = w + length m + length (treeWords a)
+    -- with d indices of a dword each
+    flat-walks : {d : ℕ} → Flat q w d → w + d ≤ length ws → Is 1 d (at 15 q) ≡ walked (there (confirm left) rs ws r w)
+    flat-walks {d} a l =
+        let s = a .starts in
+        let n : 1 + cond (ltb 1 d) 1 0 + cond (ltb 2 d) 1 0 ≡ d = flags d (a .some) (a .most) in
+        let p : true ≡ ltb 0 d = sym (lt-ltb 0 d (a .some)) in
+        let f₀ : 0 ≡ repr 0 (dwordOf q) = (λ j. cond (p j) 0 8) ∙ repr-of (a .indices .0) (a .indices .1) 0 (omega arith) in
+        let f₁ : cond (ltb 1 d) 0 8 ≡ repr 1 (dwordOf q) = repr-of (a .indices .0) (a .indices .1) 1 (omega arith) in
+        let f₂ : cond (ltb 2 d) 0 8 ≡ repr 2 (dwordOf q) = repr-of (a .indices .0) (a .indices .1) 2 (omega arith) in
+        let lr : 16 * (r + 1) ≤ length rs = omega (arith, row-there) in
+        let i₀ = plain-index (left - 1) rs ws (r + 1) w lr true (omega arith) (s .first) (a .child) in
+        let i₁ = plain-index (left - 1) rs ws (r + 1) (w + 1) lr (ltb 1 d) (omega arith) (a .second) (a .plain .common .second) in
+        let i₂ = plain-index (left - 1) rs ws (r + 1) (w + 1 + cond (ltb 1 d) 1 0) lr (ltb 2 d) (omega arith) (a .third) (a .plain .common .third) in
+        let er : 1 ≡ r + 1 - r = omega arith in
+        let ew : d ≡ w + 1 + cond (ltb 1 d) 1 0 + cond (ltb 2 d) 1 0 - w = omega arith in
+        let ed : at 15 q ≡ 1 + extras q + 1 + cond (ltb 1 d) 1 0 + cond (ltb 2 d) 1 0 = omega (arith, a .dwords) in
+        (λ j. Is (er j) (ew j) (ed j)) ∙ indices-walk (s .kind) (s .no-place) (s .no-immediates) f₀ f₁ f₂ i₀ i₁ i₂ (a .plain .common .rows ∙ er) ed
 
-    written : operandRow r w (of d) exts m a b c ≡
-        k ∷ f ∷ s ∷ v ∷ placed (ltb 0 (length m)) w ∷ length m ∷ d ∷ 0 ∷ wordPlace i₀ (w + length m) ∷ wordPlace i₁ w₁ ∷ wordPlace i₂ (w₁ + length (treeWords b)) ∷
-        childRow i₀ (r + 1) ∷ childRow i₁ (r + 1 + treeRows a) ∷ childRow i₂ (r + 1 + treeRows a + treeRows b) ∷ treeRows (node (of d) exts m a b c) ∷ length (dwords (node (of d) exts m a b c)) ∷ []
-    unfolding operandRow
-    written = λ j.
-        type-is f s k d (length exts) hs hk hd hx j ∷ form-is f s k d (length exts) hs j ∷ selection-is f s k d (length exts) hs j ∷ signs v hv .again j ∷ placed (ltb 0 (length m)) w ∷ length m ∷
-        dimension-is f s k d (length exts) hs hk hd hx j ∷ reprs-is f s k d (length exts) hs hk hd hx j ∷ wordPlace (e₀ j) (w + length m) ∷ wordPlace (e₁ j) w₁ ∷ wordPlace (e₂ j) (w₁ + length (treeWords b)) ∷
-        childRow (e₀ j) (r + 1) ∷ childRow (e₁ j) (r + 1 + treeRows a) ∷ childRow (e₂ j) (r + 1 + treeRows a + treeRows b) ∷ treeRows (node (of d) exts m a b c) ∷ length (dwords (node (of d) exts m a b c)) ∷ []
-
-  repr-of : (d : ℕ) → d < 4 → (i : ℕ) → i < 3 → repr i (of d) ≡ cond (ltb i d) 0 8
-  repr-of d hd i hi = repr-is f s k d (length exts) hs hk hd hx i hi
-
-  -- immediates; an index; two
-  leaf-dwords : (m : List ℕ) {n : ℕ} → length m ≡ n → length (dwords (node (of 0) exts m none none none)) ≡ 1 + length exts + n
-  unfolding dwords
-  leaf-dwords m e = omega (arith, four-lengths (exts ++ m) [] [] [], length-append exts m)
-
-  leaf-words : (m : List ℕ) {n : ℕ} → length m ≡ n → length (treeWords (node (of 0) exts m none none none)) ≡ n
-  unfolding treeWords
-  leaf-words m e = omega (arith, four-lengths m [] [] [])
-
-  leaf-written : (m : List ℕ) (n : ℕ) → length m ≡ n → 0 < n → operandRow r w (of 0) exts m none none none ≡ row k f s v 0 w n 0 0 (1 + length exts + n)
-  unfolding treeRows own nests
-  leaf-written m n e l =
-      let p : ltb 0 (length m) ≡ true = lt-ltb 0 (length m) (omega arith) in
-      let i₀ : repr 0 (of 0) ≡ 8 = repr-of 0 (omega arith) 0 (omega arith) in
-      let i₁ : repr 1 (of 0) ≡ 8 = repr-of 0 (omega arith) 1 (omega arith) in
-      let i₂ : repr 2 (of 0) ≡ 8 = repr-of 0 (omega arith) 2 (omega arith) in
-      written 0 (omega arith) i₀ i₁ i₂ m none none none ∙ (λ j. row k f s v 0 (placed (p j) w) (e j) 0 0 (leaf-dwords m e j))
-
-  single-written : (x : ℕ) → operandRow r w (of 1) exts [] (plain (x ∷ []) none) (plain [] none) (plain [] none) ≡ row k f s v 1 0 0 w 0 (2 + length exts)
-  unfolding treeRows treeWords own nests dwords
-  single-written x =
-      let i₀ : repr 0 (of 1) ≡ 0 = repr-of 1 (omega arith) 0 (omega arith) in
-      let i₁ : repr 1 (of 1) ≡ 8 = repr-of 1 (omega arith) 1 (omega arith) in
-      let i₂ : repr 2 (of 1) ≡ 8 = repr-of 1 (omega arith) 2 (omega arith) in
-      let z : w + 0 ≡ w = add-zero w in
-      let n : suc (length (exts ++ [] ++ (x ∷ []) ++ [] ++ [])) ≡ 2 + length exts = omega (arith, four-lengths (exts ++ []) (x ∷ []) [] [], length-append exts []) in
-      written 1 (omega arith) i₀ i₁ i₂ [] (plain (x ∷ []) none) (plain [] none) (plain [] none) ∙ (λ j. row k f s v 1 0 0 (z j) 0 (n j))
-
-  double-written : (x y : ℕ) → operandRow r w (of 2) exts [] (plain (x ∷ []) none) (plain (y ∷ []) none) (plain [] none) ≡ row k f s v 2 0 0 w (w + 1) (3 + length exts)
-  unfolding treeRows treeWords own nests dwords
-  double-written x y =
-      let i₀ : repr 0 (of 2) ≡ 0 = repr-of 2 (omega arith) 0 (omega arith) in
-      let i₁ : repr 1 (of 2) ≡ 0 = repr-of 2 (omega arith) 1 (omega arith) in
-      let i₂ : repr 2 (of 2) ≡ 8 = repr-of 2 (omega arith) 2 (omega arith) in
-      let z : w + 0 ≡ w = add-zero w in
-      let n : suc (length (exts ++ [] ++ (x ∷ []) ++ (y ∷ []) ++ [])) ≡ 3 + length exts = omega (arith, four-lengths (exts ++ []) (x ∷ []) (y ∷ []) [], length-append exts []) in
-      written 2 (omega arith) i₀ i₁ i₂ [] (plain (x ∷ []) none) (plain (y ∷ []) none) (plain [] none) ∙ (λ j. row k f s v 2 0 0 (z j) (z j + 1) (n j))
-
-  module _ (q : List ℕ) (h : 16 ≤ length q) (left : ℕ) where
-    leaf-walks : k / 2 ≡ 2 → (n : ℕ) → n ≡ counted f → 0 < n → take 16 q ≡ row k f s v 0 w n 0 0 (1 + length exts + n) → (ws : List ℕ) → n ≤ length ws → Is 1 n (1 + length exts + n) ≡ walked (confirm (suc left) q ws r w)
-    unfolding confirmImmediates immediates treeRows
-    leaf-walks g n en p e ws l =
-        let d : _<_ 0 4 = omega arith in
-        let lm : length (take n ws) ≡ n = length-take-le n ws l in
-        rw (immediately q h 0 w n 0 0 (1 + length exts + n) d e left ws g, dimension-is f s k 0 (length exts) hs hk d hx, form-is f s k 0 (length exts) hs, ← en, le-leb n (length ws) l, confirmed-is _ r w (of 0) exts (take n ws) none none none (leaf-written (take n ws) n lm p))
-        (λ j. Is 1 (sym (leaf-words (take n ws) lm) j) (sym (leaf-dwords (take n ws) lm) j))
-
-    single-walks : (k / 2 ≡ 2 → ⊥) → take 16 q ≡ row k f s v 1 0 0 w 0 (2 + length exts) → (ws : List ℕ) → 1 ≤ length ws → Is 1 1 (2 + length exts) ≡ walked (confirm (suc left) q ws r w)
-    unfolding confirmIndices treeRows treeWords dwords
-    single-walks g e [] l = impossible (omega arith)
-    single-walks g e (x ∷ ws) l =
-        let i₀ : repr 0 (of 1) ≡ 0 = repr-of 1 (omega arith) 0 (omega arith) in
-        let i₁ : repr 1 (of 1) ≡ 8 = repr-of 1 (omega arith) 1 (omega arith) in
-        let i₂ : repr 2 (of 1) ≡ 8 = repr-of 1 (omega arith) 2 (omega arith) in
-        let n : 2 + length exts ≡ suc (length (exts ++ [] ++ (x ∷ []) ++ [] ++ [])) = omega (arith, four-lengths (exts ++ []) (x ∷ []) [] [], length-append exts []) in
-        rw (indexed q h 1 0 0 w 0 (2 + length exts) (omega arith) e left (x ∷ ws) g, i₀, index-one (confirm left) (drop 16 q) x ws (r + 1) w, i₁, index-past (confirm left) _ _ _ _, i₂, index-past (confirm left) _ _ _ _, confirmed-is _ r w (of 1) exts [] _ _ _ (single-written x))
-        (λ j. Is 1 1 (n j))
-
-    double-walks : (k / 2 ≡ 2 → ⊥) → take 16 q ≡ row k f s v 2 0 0 w (w + 1) (3 + length exts) → (ws : List ℕ) → 2 ≤ length ws → Is 1 2 (3 + length exts) ≡ walked (confirm (suc left) q ws r w)
-    unfolding confirmIndices treeRows treeWords dwords
-    double-walks g e [] l = impossible (omega arith)
-    double-walks g e (x ∷ []) l = impossible (omega arith)
-    double-walks g e (x ∷ y ∷ ws) l =
-        let i₀ : repr 0 (of 2) ≡ 0 = repr-of 2 (omega arith) 0 (omega arith) in
-        let i₁ : repr 1 (of 2) ≡ 0 = repr-of 2 (omega arith) 1 (omega arith) in
-        let i₂ : repr 2 (of 2) ≡ 8 = repr-of 2 (omega arith) 2 (omega arith) in
-        let n : 3 + length exts ≡ suc (length (exts ++ [] ++ (x ∷ []) ++ (y ∷ []) ++ [])) = omega (arith, four-lengths (exts ++ []) (x ∷ []) (y ∷ []) [], length-append exts []) in
-        rw (indexed q h 2 0 0 w (w + 1) (3 + length exts) (omega arith) e left (x ∷ y ∷ ws) g, i₀, index-one (confirm left) (drop 16 q) x (y ∷ ws) (r + 1) w, i₁, index-one (confirm left) _ y ws _ _, i₂, index-past (confirm left) _ _ _ _, confirmed-is _ r w (of 2) exts [] _ _ _ (double-written x y))
-        (λ j. Is 1 2 (n j))
+    -- with a dword and an operand, which has a word and two dwords, in the next row; o dwords of its index are before it
+    pub nested-walks : {o : ℕ} → o < 2 → Nested q r w o → at 7 q ≡ 16 + 8 * o → 16 * (r + 2) ≤ length rs → w + 2 + o ≤ length ws → Is 1 1 2 ≡ walked (there (confirm (left - 1)) rs ws (r + 1) (w + 1 + o)) → Is 2 (2 + o) (at 15 q) ≡ walked (there (confirm left) rs ws r w)
+    nested-walks {o} ho a e₇ lr l e =
+        let s = a .starts in
+        let z₀ : 0 ≡ (16 + 8 * o) / 2 ^ 0 % 2 ^ 3 = omega arith in
+        let z₁ : 2 + o ≡ (16 + 8 * o) / 2 ^ 3 % 2 ^ 3 = omega arith in
+        let f₀ : 0 ≡ repr 0 (dwordOf q) = z₀ ∙ repr-of (a .dimension) e₇ 0 (omega arith) in
+        let f₁ : 2 + o ≡ repr 1 (dwordOf q) = z₁ ∙ repr-of (a .dimension) e₇ 1 (omega arith) in
+        let f₂ : 8 ≡ repr 2 (dwordOf q) = repr-of (a .dimension) e₇ 2 (omega arith) in
+        let i₀ = plain-index (left - 1) rs ws (r + 1) w (omega arith) true (omega arith) (s .first) (a .leading .first-row) in
+        let i₁ = operand-index (left - 1) rs ws (r + 1) (w + 1) (omega arith) o ho (omega arith) e (a .second) (a .child) in
+        let i₂ = plain-index (left - 1) rs ws (r + 1 + 1) (w + 1 + o + 1) (omega arith) false (omega arith) (a .leading .third) (a .leading .third-row) in
+        let er : 2 ≡ r + 1 + 1 - r = omega arith in
+        let ew : 2 + o ≡ w + 1 + o + 1 + 0 - w = omega arith in
+        let ed : at 15 q ≡ 1 + extras q + 1 + (o + 2) + 0 = omega (arith, a .size) in
+        (λ j. Is (er j) (ew j) (ed j)) ∙ indices-walk (s .kind) (s .no-place) (s .no-immediates) f₀ f₁ f₂ i₀ i₁ i₂ (a .leading .rows ∙ er) ed
 
 -- ---- what the code asks of a row
 pub no-form : (f : ℕ) → (f ≡ 0 → ⊥) → (f ≡ 1 → ⊥) → (f ≡ 2 → ⊥) → (f ≡ 3 → ⊥) → (f ≡ 4 → ⊥) → 0 ≡ selections f
@@ -302,97 +378,13 @@ no-form (suc (suc (suc zero))) a b c d e = absurd (d refl)
 no-form (suc (suc (suc (suc zero)))) a b c d e = absurd (e refl)
 no-form (suc (suc (suc (suc (suc f))))) a b c d e = refl
 
-pub none-counted : (f : ℕ) → (f ≡ 1 → ⊥) → (f ≡ 2 → ⊥) → (f ≡ 3 → ⊥) → (f ≡ 4 → ⊥) → 0 ≡ counted f
-none-counted zero a b c d = refl
-none-counted (suc zero) a b c d = absurd (a refl)
-none-counted (suc (suc zero)) a b c d = absurd (b refl)
-none-counted (suc (suc (suc zero))) a b c d = absurd (c refl)
-none-counted (suc (suc (suc (suc zero)))) a b c d = absurd (d refl)
-none-counted (suc (suc (suc (suc (suc f))))) a b c d = refl
-
-few-counted : (f : ℕ) → counted f ≤ 4
-few-counted zero = omega arith
-few-counted (suc zero) = omega arith
-few-counted (suc (suc zero)) = omega arith
-few-counted (suc (suc (suc zero))) = omega arith
-few-counted (suc (suc (suc (suc zero)))) = omega arith
-few-counted (suc (suc (suc (suc (suc f))))) = omega arith
-
-pub counted-few : (f : ℕ) {m : ℕ} → m ≡ counted f → m ≤ 4
-counted-few f e = omega (arith, few-counted f)
-
--- numbers whose joined bits are none are 0
-or-none : (a b : ℕ) → bitOr a b ≡ 0 → (a ≡ 0) × (b ≡ 0)
-or-none a b e = (omega (arith, or-add-and a b, and-le-r a b), omega (arith, or-add-and a b, and-le-l a b))
-
-pub childless : (q : List ℕ) → bitOr (bitOr (at 11 q) (at 12 q)) (at 13 q) ≡ 0 → Childless q
-childless q e =
-    let e₁ = or-none _ _ e in
-    let e₂ = or-none _ _ (e₁ .0) in
-    record { first = e₂ .0; second = e₂ .1; last = e₁ .1 }
-
-pub other : {A : Type 0} → false ≡ true → A
-other e = impossible (cc)
-
-pub plain-row : (q : List ℕ) → at 0 q ≤ 255 → {n : ℕ} → n ≡ selections (at 1 q) → at 2 q < n → at 3 q ≤ 3 → at 14 q ≡ 1 → eqb (bitOr (at 7 q) (at 10 q)) 0 ≡ true → Plain q
-plain-row q ht en hs hv hr e = let o = or-none _ _ (eqb-true _ 0 e) in record { type = omega arith; selection = omega arith; signs = omega arith; reprs = o .0; third = o .1; rows = hr }
-
-pub other-row : (q : List ℕ) (w : ℕ) → Lone q w 0
-other-row q w = record { few = omega arith; place = λ h. impossible (omega arith); size = λ h. impossible (omega arith); walks = λ h. impossible (omega arith) }
-
-single-lone : (q : List ℕ) (w : ℕ) → 16 ≤ length q → Plain q → Childless q → (at 0 q / 2 ≡ 2 → ⊥) → w < 2 ^ 32 → at 4 q ≡ 0 → at 5 q ≡ 0 → at 6 q ≡ 1 → at 8 q ≡ w → at 9 q ≡ 0 → at 15 q ≡ 2 + length (extensionOf (at 3 q)) → Lone q w 1
-single-lone q w h p z g hw e₄ e₅ e₆ e₈ e₉ ed = record {
-  few = omega arith;
-  place = λ l. hw;
-  size = λ l. ed;
-  walks = λ l k r ws y. ap (λ (j : ℕ). Is 1 1 j) ed ∙ single-walks (at 1 q) (at 2 q) (at 0 q) (at 3 q) (p .selection) (p .type) (p .signs) r w q h k g (row-is q h p z e₄ e₅ e₆ e₈ e₉ ed) ws y;
-}
-
-module _ (q : List ℕ) (w : ℕ) (h : 16 ≤ length q) (b : Bool) (hb : b ≡ true → Plain q) (nb : not b ≡ false) (x : ℕ) (z : x ≡ 0 → Childless q) where
-  p : Plain q
-  p = hb (not-false b nb)
-
-  pub lone-leaf : at 0 q / 2 ≡ 2 → {m : ℕ} → m ≡ counted (at 1 q) → (m ≡ 0 → ⊥) → at 5 q ≡ m → {u : ℕ} → u ≡ at 4 q → u < 2 ^ 32 → u ≡ w → bitOr (bitOr (bitOr x (at 6 q)) (at 8 q)) (at 9 q) ≡ 0 → {y : ℕ} → y ≡ length (extensionOf (at 3 q)) → at 15 q ≡ 1 + y + m → {n : ℕ} → n ≡ m → Lone q w n
-  lone-leaf g {m} em nm e₅ {u} eu su ew o {y} ey e₁₅ {n} en =
-      let o₁ = or-none _ _ o in
-      let o₂ = or-none _ _ (o₁ .0) in
-      let o₃ = or-none _ _ (o₂ .0) in
-      let ed : at 15 q ≡ 1 + length (extensionOf (at 3 q)) + n = omega arith in
-      let e = row-is q h p (z (o₃ .0)) (sym eu ∙ ew) (e₅ ∙ sym en) (o₃ .1) (o₂ .1) (o₁ .1) ed in
-      record {
-        few = omega (arith, few-counted (at 1 q));
-        place = λ l. omega arith;
-        size = λ l. omega arith;
-        walks = λ l k r ws y₁. ap (λ (j : ℕ). Is 1 n j) ed ∙ leaf-walks (at 1 q) (at 2 q) (at 0 q) (at 3 q) (p .selection) (p .type) (p .signs) r w q h k g n (en ∙ em) l e ws y₁;
-      }
-
-  pub lone-single : (at 0 q / 2 ≡ 2 → ⊥) → at 6 q ≡ 1 → bitOr (bitOr (bitOr x (at 4 q)) (at 5 q)) (at 9 q) ≡ 0 → {u : ℕ} → u ≡ at 8 q → u < 2 ^ 32 → u ≡ w → {y : ℕ} → y ≡ length (extensionOf (at 3 q)) → at 15 q ≡ 2 + y → Lone q w 1
-  lone-single g e₆ o {u} eu su ew ey e₁₅ =
-      let o₁ = or-none _ _ o in
-      let o₂ = or-none _ _ (o₁ .0) in
-      let o₃ = or-none _ _ (o₂ .0) in
-      single-lone q w h p (z (o₃ .0)) g (omega arith) (o₃ .1) (o₂ .1) e₆ (sym eu ∙ ew) (o₁ .1) (e₁₅ ∙ ap (λ (j : ℕ). 2 + j) ey)
-
-  pub lone-double : (at 0 q / 2 ≡ 2 → ⊥) → at 6 q ≡ 2 → bitOr (bitOr x (at 4 q)) (at 5 q) ≡ 0 → {u : ℕ} → u ≡ at 8 q → u < 2 ^ 32 → u ≡ w → {v : ℕ} → v ≡ at 9 q → v ≡ w + 1 → {y : ℕ} → y ≡ length (extensionOf (at 3 q)) → at 15 q ≡ 3 + y → Lone q w 2
-  lone-double g e₆ o {u} eu su ew ev ew₁ ey e₁₅ =
-      let o₁ = or-none _ _ o in
-      let o₂ = or-none _ _ (o₁ .0) in
-      let ed : at 15 q ≡ 3 + length (extensionOf (at 3 q)) = e₁₅ ∙ ap (λ (j : ℕ). 3 + j) ey in
-      let e = row-is q h p (z (o₂ .0)) (o₂ .1) (o₁ .1) e₆ (sym eu ∙ ew) (sym ev ∙ ew₁) ed in
-      record {
-        few = omega arith;
-        place = λ l. omega arith;
-        size = λ l. ed;
-        walks = λ l k r ws y₁. ap (λ (j : ℕ). Is 1 2 j) ed ∙ double-walks (at 1 q) (at 2 q) (at 0 q) (at 3 q) (p .selection) (p .type) (p .signs) r w q h k g e ws y₁;
-      }
-
--- ---- what the code asks of a row whose numbers it compares two by two
--- two numbers are told by their sum, if the lower is a dword
-two : (a b c d : ℕ) → a < 2 ^ 32 → c < 2 ^ 32 → a + b * 2 ^ 32 ≡ c + d * 2 ^ 32 → (a ≡ c) × (b ≡ d)
-two a b c d ha hc e = (omega arith, omega arith)
-
-pub apart : (a b c d : ℕ) {x : ℕ} → x ≡ a + b * 2 ^ 32 → a < 2 ^ 32 → c < 2 ^ 32 → x ≡ c + d * 2 ^ 32 → (a ≡ c) × (b ≡ d)
-apart a b c d ex ha hc e = two a b c d ha hc (sym ex ∙ e)
+pub a-form : (f s : ℕ) → s < selections f → f < 5
+a-form zero s h = omega arith
+a-form (suc zero) s h = omega arith
+a-form (suc (suc zero)) s h = omega arith
+a-form (suc (suc (suc zero))) s h = omega arith
+a-form (suc (suc (suc (suc zero)))) s h = omega arith
+a-form (suc (suc (suc (suc (suc f))))) s h = impossible (omega arith)
 
 few-selections : (f : ℕ) → selections f ≤ 256
 few-selections zero = omega arith
@@ -402,20 +394,89 @@ few-selections (suc (suc (suc zero))) = omega arith
 few-selections (suc (suc (suc (suc zero)))) = omega arith
 few-selections (suc (suc (suc (suc (suc f))))) = omega arith
 
+-- two numbers are told by their sum, if the lower is a dword
+two : (a b c d : ℕ) → a < 2 ^ 32 → c < 2 ^ 32 → a + b * 2 ^ 32 ≡ c + d * 2 ^ 32 → (a ≡ c) × (b ≡ d)
+two a b c d ha hc e = (omega arith, omega arith)
+
+pub apart : (a b c d : ℕ) {x : ℕ} → x ≡ a + b * 2 ^ 32 → a < 2 ^ 32 → c < 2 ^ 32 → x ≡ c + d * 2 ^ 32 → (a ≡ c) × (b ≡ d)
+apart a b c d ex ha hc e = two a b c d ha hc (sym ex ∙ e)
+
+pub lower : (a b c : ℕ) {x : ℕ} → x ≡ a + b * 2 ^ 32 → a < 2 ^ 32 → c < 2 ^ 32 → x ≡ c → (a ≡ c) × (b ≡ 0)
+lower a b c ex ha hc e = apart a b c 0 ex ha hc (omega arith)
+
+-- a selection, and no modifiers
 pub unmodified : (q : List ℕ) {n s x : ℕ} → s ≡ selections (at 1 q) → n ≡ s → x ≡ at 2 q + at 3 q * 2 ^ 32 → x < n → (at 2 q < selections (at 1 q)) × (at 3 q ≡ 0)
 unmodified q es en ex h = (omega arith, omega (arith, few-selections (at 1 q)))
-
-pub at-word : (a b w : ℕ) {x y : ℕ} → x ≡ a + b * 2 ^ 32 → a < 2 ^ 32 → w < 2 ^ 32 → y ≡ w → x ≡ y → (a ≡ w) × (b ≡ 0)
-at-word a b w ex ha hw ey e = apart a b w 0 ex ha hw (omega arith)
 
 pub unlike : (a b : ℕ) → not (eqb a b) ≡ true → a ≡ b → ⊥
 unlike a b e = eqb-false a b (not-true (eqb a b) e)
 
-pub bare-row : (q : List ℕ) (w : ℕ) → 16 ≤ length q → w < 2 ^ 32 →
-    (at 14 q ≡ 1) × (at 15 q ≡ 2) → (at 6 q ≡ 1) × (at 7 q ≡ 0) → at 0 q ≤ 255 → (at 2 q < selections (at 1 q)) × (at 3 q ≡ 0) → (at 4 q ≡ 0) × (at 5 q ≡ 0) → (at 8 q ≡ w) × (at 9 q ≡ 0) → (at 10 q ≡ 0) × (at 11 q ≡ 0) → (at 12 q ≡ 0) × (at 13 q ≡ 0) →
-    (at 0 q / 2 ≡ 2 → ⊥) → Bare q w
-bare-row q w h hw (e₁₄, e₁₅) (e₆, e₇) h₀ (h₂, e₃) (e₄, e₅) (e₈, e₉) (e₁₀, e₁₁) (e₁₂, e₁₃) g =
-    let p : Plain q = record { type = omega arith; selection = h₂; signs = omega arith; reprs = e₇; third = e₁₀; rows = e₁₄ } in
-    let z : Childless q = record { first = e₁₁; second = e₁₂; last = e₁₃ } in
-    let ed : at 15 q ≡ 2 + length (extensionOf (at 3 q)) = e₁₅ ∙ ap (λ (j : ℕ). 2 + j) (no-signs (at 3 q) e₃) in
-    record { lone = single-lone q w h p z g hw e₄ e₅ e₆ e₈ e₉ ed; dwords-are = e₁₅ }
+pub other : {A : Type 0} → false ≡ true → A
+other e = impossible (cc)
+
+pub other-row : (q : List ℕ) (w : ℕ) → Lone q w 0
+other-row q w = record { few = omega arith; size = λ h. impossible (omega arith); walks = λ h. impossible (omega arith) }
+
+pub common-row : (q : List ℕ) → at 14 q ≡ 1 → (at 12 q ≡ 0) × (at 13 q ≡ 0) → ltb (at 0 q) 256 ≡ true → Common q
+common-row q e₁₄ e h = record { type = ltb-true (at 0 q) 256 h; second = e .0; third = e .1; rows = e₁₄ }
+
+pub plain-row : (q : List ℕ) → Common q → {n s x : ℕ} → s ≡ selections (at 1 q) → n ≡ s → x ≡ at 2 q → x < n → at 3 q ≤ 3 → Plain q
+plain-row q a es en ex h v = record { common = a; selection = omega arith; signs = omega arith }
+
+pub starting : (q : List ℕ) (w : ℕ) → (at 0 q / 2 ≡ 2 → ⊥) → (at 4 q ≡ 0) × (at 5 q ≡ 0) → at 8 q ≡ w → w < 2 ^ 32 → Starts q w
+starting q w k e e₈ h = record { kind = k; no-place = e .0; no-immediates = e .1; first = e₈; dword = h }
+
+leaf-lone : {q : List ℕ} {w m : ℕ} → Leaf q w m → m < 5 → Lone q w m
+leaf-lone {q} {w} {m} a h = record {
+  few = omega arith;
+  size = λ l. omega (arith, a .dwords);
+  walks = λ l left rs ws r e b.
+      let z : Leaf (drop (16 * r) rs) w m = subst (λ (y : List ℕ). Leaf y w m) e a in
+      ap (λ (y : List ℕ). Is 1 m (at 15 y)) e ∙ immediates-walk rs r (told (drop (16 * r) rs) (z .long) (z .plain .common .type) (z .plain .selection) (z .plain .signs) (z .indices) (omega arith) (omega arith)) (suc left) (λ i. impossible (omega arith)) ws w z l b;
+}
+
+flat-lone : {q : List ℕ} {w d : ℕ} → Flat q w d → Lone q w d
+flat-lone {q} {w} {d} a = record {
+  few = omega (arith, a .most);
+  size = λ l. a .dwords;
+  walks = λ l left rs ws r e b.
+      let z : Flat (drop (16 * r) rs) w d = subst (λ (y : List ℕ). Flat y w d) e a in
+      ap (λ (y : List ℕ). Is 1 d (at 15 y)) e ∙ flat-walks rs r (told (drop (16 * r) rs) (z .long) (z .plain .common .type) (z .plain .selection) (z .plain .signs) (z .indices) (z .most) (pow-pos (3 * d))) (suc left) (λ i. impossible (omega arith)) ws w z b;
+}
+
+pub leaf-row : (q : List ℕ) (w : ℕ) → 16 ≤ length q → Plain q → at 0 q / 2 ≡ 2 → (at 6 q ≡ 0) × (at 7 q ≡ 0) → (at 8 q ≡ 0) × (at 9 q ≡ 0) → (at 10 q ≡ 0) × (at 11 q ≡ 0) → {u : ℕ} → u ≡ at 4 q → u ≡ w → {m : ℕ} → m ≡ counted (at 1 q) → m < 5 → at 5 q ≡ m → {y : ℕ} → y ≡ extras q → at 15 q ≡ 1 + m + y → {n : ℕ} → n ≡ m → Lone q w n
+leaf-row q w h p k e₆ e₈ e₁₀ eu ew em hm e₅ ey e₁₅ en =
+    subst (Lone q w) (sym en) (leaf-lone (record { long = h; plain = p; kind = k; place = sym eu ∙ ew; number = e₅; counted-by = em; indices = e₆; words = e₈; others = e₁₀; dwords = omega arith }) hm)
+
+pub index-row : (q : List ℕ) (w d : ℕ) → 16 ≤ length q → Plain q → Starts q w → 0 < d → d < 4 → (at 6 q ≡ d) × (at 7 q ≡ 0) → at 9 q ≡ placed (ltb 1 d) (w + 1) → at 10 q ≡ placed (ltb 2 d) (w + 1 + cond (ltb 1 d) 1 0) → at 11 q ≡ 0 → {y : ℕ} → y ≡ extras q → at 15 q ≡ 1 + d + y → Lone q w d
+index-row q w d h p s l₀ l₁ e e₉ e₁₀ e₁₁ ey e₁₅ =
+    flat-lone (record { long = h; plain = p; starts = s; some = l₀; most = l₁; indices = e; second = e₉; third = e₁₀; child = e₁₁; dwords = omega arith })
+
+pub third-word : (w : ℕ) {u a : ℕ} → u ≡ a → u ≡ w + 2 → a ≡ w + 1 + 1
+third-word w e h = omega arith
+
+-- one without modifiers
+pub bare-row : (q : List ℕ) (w d : ℕ) → 16 ≤ length q → Common q → (at 2 q < selections (at 1 q)) × (at 3 q ≡ 0) → Starts q w → 0 < d → d < 4 → (at 6 q ≡ d) × (at 7 q ≡ 0) → at 9 q ≡ placed (ltb 1 d) (w + 1) → at 10 q ≡ placed (ltb 2 d) (w + 1 + cond (ltb 1 d) 1 0) → at 11 q ≡ 0 → at 15 q ≡ 1 + d → Bare q w d
+bare-row q w d h a m s l₀ l₁ e e₉ e₁₀ e₁₁ e₁₅ =
+    let z = no-signs (at 3 q) (m .1) in
+    record { lone = index-row q w d h (record { common = a; selection = m .0; signs = omega (arith, m .1) }) s l₀ l₁ e e₉ e₁₀ e₁₁ z (omega arith); dwords-are = e₁₅ }
+
+-- ---- what the code asks of a row of two
+pub leading-row : (q : List ℕ) → at 14 q ≡ 2 → (at 10 q ≡ 0) × (at 11 q ≡ 0) → at 13 q ≡ 0 → ltb (at 0 q) 256 ≡ true → Leading q
+leading-row q e₁₄ e e₁₃ h = record { type = ltb-true (at 0 q) 256 h; third = e .0; first-row = e .1; third-row = e₁₃; rows = e₁₄ }
+
+pub nested-row : (q : List ℕ) (r w o : ℕ) → Leading q → {u : ℕ} → u ≡ at 12 q → u ≡ r + 1 → {n : ℕ} → n ≡ selections (at 1 q) → at 2 q < n → at 3 q ≤ 3 → Starts q w → at 6 q ≡ 2 → {y : ℕ} → y ≡ extras q → at 15 q ≡ 4 + o + y → at 9 q ≡ placed (ltb 0 o) (w + 1) → Nested q r w o
+nested-row q r w o a eu er en h v s e₆ ey e₁₅ e₉ = record { leading = a; selection = omega arith; signs = omega arith; starts = s; dimension = e₆; second = e₉; child = sym eu ∙ er; size = omega arith }
+
+-- the dwords of the second index before its operand: none, or one
+pub no-word : (o a w : ℕ) → o ≡ 0 → eqb a 0 ≡ true → a ≡ placed (ltb 0 o) w
+no-word o a w z e = eqb-true a 0 e ∙ (λ j. placed (ltb 0 (sym z j)) w)
+
+pub a-word : (o a w : ℕ) → (o ≡ 0 → ⊥) → {u : ℕ} → u ≡ a → eqb u w ≡ true → a ≡ placed (ltb 0 o) w
+a-word o a w z {u} eu e = let p : ltb 0 o ≡ true = lt-ltb 0 o (omega (arith, z)) in sym eu ∙ eqb-true u w e ∙ (λ j. placed (sym p j) w)
+
+pub no-own : (o a : ℕ) → o ≡ 0 → a ≡ 16 → (o < 2) × (a ≡ 16 + 8 * o)
+no-own o a z e = (omega arith, omega arith)
+
+pub own-one : (o a : ℕ) → o ≡ 1 → a ≡ 24 → (o < 2) × (a ≡ 16 + 8 * o)
+own-one o a z e = (omega arith, omega arith)

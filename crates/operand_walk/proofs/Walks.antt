@@ -75,10 +75,10 @@ module _ (k i : ℕ) (rs ws : List ℕ) (r w : ℕ) (lr : 16 * r ≤ length rs) 
             (λ j. To (r + sym (found .rows-are) j) (ew j) (ed j))
 
 -- ---- a row is the one that the reader writes of an operand if its halves are
-abbrev frontSame : List ℕ → ℕ → ℕ → ℕ → ℕ → ℕ → Bool
+abbrev pub frontSame : List ℕ → ℕ → ℕ → ℕ → ℕ → ℕ → Bool
 frontSame rs r t x i m = same (take 8 (drop (16 * r) rs)) (frontFor t (op.modifiers (extensions x)) i m)
 
-abbrev backSame : List ℕ → ℕ → ℕ → Place → Place → Place → ℕ → ℕ → Bool
+abbrev pub backSame : List ℕ → ℕ → ℕ → Place → Place → Place → ℕ → ℕ → Bool
 backSame rs r t a b c rows ds = same (take 8 (drop 8 (drop (16 * r) rs))) (backFor t a b c rows ds)
 
 by-halves : (rs : List ℕ) (r t x i m : ℕ) (a b c : Place) (rows ds : ℕ) (q : List ℕ) → 16 * r + 16 ≤ length rs → frontFor t (op.modifiers (extensions x)) i m ++ backFor t a b c rows ds ≡ q → same (rowAt r rs) q ≡ (frontSame rs r t x i m && backSame rs r t a b c rows ds)
@@ -261,7 +261,7 @@ unroll zero rs ws r w h = absurd (h refl)
 unroll (suc k) rs ws r w h = rw (sub-one (suc k))
 
 -- the extension of a guess
-again : (m : ℕ) → extensions (getD (extensionOf m) 0 0) ≡ extensionOf m
+pub again : (m : ℕ) → extensions (getD (extensionOf m) 0 0) ≡ extensionOf m
 unfolding extensionOf
 again zero = none-is 0 refl
 again (suc m) = one-is _ (λ z. omega arith)

@@ -1,5 +1,5 @@
 -- What walking over the rows of a chunk answers.
-use Rattle.format.specs.Basis.{ℕ, _+_, _-_, _*_, _/_, _<_, _≤_, _≡_, List, Option, none as nothing, some as just, Bool, length, drop}
+use Rattle.format.specs.Basis.{ℕ, _+_, _-_, _*_, _/_, _≤_, _≡_, List, Option, none as nothing, some as just, Bool, length, drop}
 use Rattle.format.specs.Instructions.{Instruction, allDwords}
 use Rattle.format.specs.Refusals.{Rows}
 use Rattle.reading.specs.Confirm.{confirmAll}
@@ -23,17 +23,25 @@ abbrev pub dwordsFrom : ℕ → Option (List Instruction) → Read
 dwordsFrom at nothing = No
 dwordsFrom at (just l) = Of (at + length (allDwords l))
 
+-- the walk up to a place in bytes, an instruction whose row begins at a word of the rows, an operand row and a word
+abbrev pub spot : ℕ → ℕ → ℕ → ℕ → Walk
+spot place first row word = record { at = place / 4; instruction = first / 16; row = row; word = word }
+
 module _ (ceiling : ℕ) (model51 : Bool) (is rs ws : List ℕ) where
   -- what is confirmed from a walk so far on
   abbrev pub onward : Walk → Option (List Instruction)
   onward s = confirmAll ceiling model51 (length is / 16 - s .instruction) (4 * s .at) (drop (16 * s .instruction) is) (drop (16 * s .row) rs) (drop (s .word) ws) (s .row) (s .word)
+
+  -- what the answer is, from a walk so far on
+  abbrev pub answer : Walk → Read
+  answer s = dwordsFrom (s .at) (onward s)
 
   -- a walk so far: the answer from here is the whole's
   pub record Walking (s : Walk) (whole : Read) : Type 0 where
     pub at-most : s .at ≤ 262_144
     pub row-within : 16 * s .row ≤ length rs
     pub word-within : s .word ≤ length ws
-    pub same : dwordsFrom (s .at) (onward s) ≡ whole
+    pub same : answer s ≡ whole
 
   -- the walk past the next instruction; or there is none that is right
   pub data Steps (k : ℕ) (whole : Read) : Step → Type 0 where

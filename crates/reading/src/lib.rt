@@ -12,6 +12,7 @@ use header::ceiling;
 use header::decode_version;
 use header::is_model51;
 use instruction_walk::Walked;
+use instruction_walk::usual;
 
 // The dwords of the chunk that gives these rows, its two header dwords among them; or there is no such chunk.
 pub enum Read {
@@ -61,14 +62,14 @@ fn next(
     ceiling: u32,
     model51: bool,
 ) -> Step
-    requires { ⌜ (s .instruction < length (now instructions) / 16) × (ceiling ≤ 2048) × w.Walking ceiling model51 (now instructions) (now operands) (now words) s (w.dwordsFrom (s .at) (w.onward ceiling model51 (now instructions) (now operands) (now words) s)) ⌝ }
-    ensures { λ r. ⌜ w.Steps ceiling model51 (now (instructions .entry)) (now (operands .entry)) (now (words .entry)) (s .instruction) (w.dwordsFrom (s .at) (w.onward ceiling model51 (now (instructions .entry)) (now (operands .entry)) (now (words .entry)) s)) r ⌝ }
+    requires { ⌜ (s .instruction < length (now instructions) / 16) × (ceiling ≤ 2048) × w.Walking ceiling model51 (now instructions) (now operands) (now words) s (w.answer ceiling model51 (now instructions) (now operands) (now words) s) ⌝ }
+    ensures { λ r. ⌜ w.Steps ceiling model51 (now (instructions .entry)) (now (operands .entry)) (now (words .entry)) (s .instruction) (w.answer ceiling model51 (now (instructions .entry)) (now (operands .entry)) (now (words .entry)) s) r ⌝ }
 {
     let n = wide(instructions[s.instruction * 16 + 15]);
-    if words.len() - s.word < n {
+    let end = s.word + n;
+    if words.len() < end {
         return Step::Off;
     }
-    let end = s.word + n;
     let Walked::Is { rows, dwords } = instruction_walk::walk(
         instructions,
         s.instruction * 16,
@@ -82,7 +83,7 @@ fn next(
     ) else {
         return Step::Off;
     };
-    if 262_144 - s.at < dwords {
+    if 262_144 < s.at + dwords {
         return Step::Off;
     }
     Step::On(Walk {
@@ -93,6 +94,59 @@ fn next(
     })
 }
 
+// The walk up to a place in bytes and up to the instruction whose row begins at a word of the rows.
+fn walk_to(place: usize, first: usize, row: usize, word: usize) -> Walk
+    ensures { λ r. ⌜ r ≡ w.spot place first row word ⌝ }
+{
+    Walk {
+        at: place / 4,
+        instruction: first / 16,
+        row,
+        word,
+    }
+}
+
+// Walks past as many instructions, whose rows are these, as are told at once, which may be none. On the way a place is counted
+// in bytes and a row by its first word, as they are handed on.
+fn ahead(
+    rows: &[u32],
+    operands: &[u32],
+    words: &[u32],
+    s: Walk,
+    ceiling: u32,
+    model51: bool,
+) -> Walk
+    requires { ⌜ (16 * (length (now rows) / 16) ≡ length (now rows)) × (length (now words) < 2 ^ 32) × (s .instruction ≤ length (now rows) / 16) × (ceiling ≤ 2048) × w.Walking ceiling model51 (now rows) (now operands) (now words) s (w.answer ceiling model51 (now rows) (now operands) (now words) s) ⌝ }
+    ensures { λ r. ⌜ (s .instruction ≤ r .instruction) × w.Walking ceiling model51 (now (rows .entry)) (now (operands .entry)) (now (words .entry)) r (w.answer ceiling model51 (now (rows .entry)) (now (operands .entry)) (now (words .entry)) s) ⌝ }
+{
+    let n = rows.len();
+    let mut place = s.at * 4;
+    let mut i = s.instruction * 16;
+    let mut row = s.row;
+    let mut word = s.word;
+    while i < n {
+        let k = wide(rows[i + 15]);
+        let end = word + k;
+        if words.len() < end {
+            break;
+        }
+        let part = &words[0..end];
+        let d = usual(rows, i, place, ceiling, model51, operands, row, part, word);
+        if d == 0 {
+            break;
+        }
+        let next = place + d * 4;
+        if 0x10_0000 < next {
+            break;
+        }
+        place = next;
+        row += wide(rows[i + 13]);
+        i += 16;
+        word = end;
+    }
+    walk_to(place, i, row, word)
+}
+
 // Walks over all instructions, whose rows are these; their operands' rows and words are these and no others.
 fn walk_all(
     instructions: &[u32],
@@ -101,7 +155,7 @@ fn walk_all(
     ceiling: u32,
     model51: bool,
 ) -> Read
-    requires { ⌜ ceiling ≤ 2048 ⌝ }
+    requires { ⌜ (16 * (length (now instructions) / 16) ≡ length (now instructions)) × (length (now words) < 2 ^ 32) × (ceiling ≤ 2048) ⌝ }
     ensures { λ r. ⌜ r ≡ w.dwordsFrom 2 (c.confirmAll ceiling model51 (length (now (instructions .entry)) / 16) 8 (now (instructions .entry)) (now (operands .entry)) (now (words .entry)) 0 0) ⌝ }
 {
     let n = instructions.len() / 16;
@@ -111,9 +165,10 @@ fn walk_all(
         row: 0,
         word: 0,
     };
+    s = ahead(instructions, operands, words, s, ceiling, model51);
     while s.instruction < n {
         match next(instructions, operands, words, s, ceiling, model51) {
-            Step::On(t) => s = t,
+            Step::On(t) => s = ahead(instructions, operands, words, t, ceiling, model51),
             Step::Off => return Read::No,
         }
     }

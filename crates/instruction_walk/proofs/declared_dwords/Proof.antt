@@ -26,7 +26,7 @@ returns-2 : tie.Need-returns-2
 returns-2 c = unsaid
 
 past-lone-requires : tie.Need-past-lone-requires
-past-lone-requires c κs = (first-bounds (c .before .before .before .before .before .before .before .before .before .args .model51) (c .before .before .before .before .before .before .before .before .before .args .s) (c .before .before .before .before .before .before .before .before .before .args .operands .now) (c .before .before .before .before .before .before .before .before .before .args .words .now) (c .before .before .before .before .before .before .before .before .before .args .row) (c .before .before .before .before .before .before .before .before .before .args .word) (c .before .before .before .before .before .before .before .before .before .pre .1) _ (c .before .before .before .past-words .ensures) _ (c .before .a .given .1) .1, c .before .before .before .before .before .before .before .before .before .pre .3 .operands)
+past-lone-requires c κs = (first-bounds (c .before .before .before .before .before .before .before .before .before .args .model51) (c .before .before .before .before .before .before .before .before .before .args .s) (c .before .before .before .before .before .before .before .before .before .args .operands .now) (c .before .before .before .before .before .before .before .before .before .args .words .now) (c .before .before .before .before .before .before .before .before .before .args .row) (c .before .before .before .before .before .before .before .before .before .args .word) (c .before .before .before .before .before .before .before .before .before .pre .1) _ (c .before .before .before .past-words .ensures) _ (c .before .a .given .1) .1, c .before .before .before .before .before .before .before .before .before .pre .3 .operands, c .before .before .before .before .before .before .before .before .before .pre .5)
 
 enum-known-b : tie.Need-enum-known-b
 enum-known-b c = search needs

@@ -1,4 +1,3 @@
-use mathlib.Core.Path.{refl}
 use lib.Dec.{lit<}
 use borrow.Author.Tests.{not-false}
 use Rattle.operand_walk.proofs.Alone.{apart}
@@ -62,50 +61,20 @@ shared-slice-read-n c = search needs
 returns-4 : tie.Need-returns-4
 returns-4 c = other
 
-add-f : tie.Need-add-f
-add-f c = search needs
+add-field-fits : tie.Need-add-field-fits
+add-field-fits c = search needs
 
-mul-f : tie.Need-mul-f
-mul-f c = search needs
+mul-field-fits : tie.Need-mul-field-fits
+mul-field-fits c = search needs
 
-shared-slice-read-f : tie.Need-shared-slice-read-f
-shared-slice-read-f c = search needs
+shared-slice-read-field-fits : tie.Need-shared-slice-read-field-fits
+shared-slice-read-field-fits c = search needs
+
+field-fits-requires : tie.Need-field-fits-requires
+field-fits-requires c κs = search needs
 
 returns-5 : tie.Need-returns-5
-returns-5 c = other
-
-add-t : tie.Need-add-t
-add-t c = search needs
-
-mul-t : tie.Need-mul-t
-mul-t c = search needs
-
-shared-slice-read-t : tie.Need-shared-slice-read-t
-shared-slice-read-t c = search needs
-
-mul-t-2 : tie.Need-mul-t-2
-mul-t-2 c = search needs
-
-add-t-2 : tie.Need-add-t-2
-add-t-2 c = search needs
-
-mul-t-3 : tie.Need-mul-t-3
-mul-t-3 c = search needs
-
-add-t-3 : tie.Need-add-t-3
-add-t-3 c = search needs
-
-field-of-requires : tie.Need-field-of-requires
-field-of-requires c κs = search needs
-
-returns-6 : tie.Need-returns-6
-returns-6 c = other
-
-in-bounds-requires : tie.Need-in-bounds-requires
-in-bounds-requires c κs = search needs
-
-returns-7 : tie.Need-returns-7
-returns-7 c = λ y. field-row (c .before .before .before .before .before .before .before .before .before .before .before .before .before .before .before .before .before .args .instructions .now) (c .before .before .before .before .before .before .before .before .before .before .before .before .before .before .before .before .before .args .first) (c .before .before .before .before .before .before .before .before .before .before .before .before .before .before .before .before .before .args .s) (apart _ _ 0 0 (c .before .before .before .before .before .before .before .before .before .before .before .before .before .pair .ensures .0) (c .before .before .before .before .before .before .before .before .before .before .before .before .before .pair .ensures .1) (lit< tt) (c .before .before .before .before .before .before .before .before .before .before .before .before .if1 .left)) (c .before .before .before .before .before .before .before .before .before .before .if2 .left) (c .before .before .before .before .before .before .before .before .before .unextended .ensures (not-false _ (c .before .before .before .before .before .before .before .before .if3 .left))) (c .before .before .before .before .before .before .if4 .left) (c .before .before .before .before .if5 .left) refl (c .before .before .field-of .ensures) (c .before .if6 .left) (c .in-bounds .ensures) y
+returns-5 c = λ y. field-row (c .before .before .before .before .before .before .before .before .before .before .before .before .before .args .instructions .now) (c .before .before .before .before .before .before .before .before .before .before .before .before .before .args .first) (c .before .before .before .before .before .before .before .before .before .before .before .before .before .args .s) (apart _ _ 0 0 (c .before .before .before .before .before .before .before .before .before .pair .ensures .0) (c .before .before .before .before .before .before .before .before .before .pair .ensures .1) (lit< tt) (c .before .before .before .before .before .before .before .before .if1 .left)) (c .before .before .before .before .before .before .if2 .left) (c .before .before .before .before .before .unextended .ensures (not-false _ (c .before .before .before .before .if3 .left))) (c .before .before .before .before .before .before .before .before .before .before .before .before .before .pre .1) (c .before .before .if4 .left) (c .field-fits .ensures y)
 
 pub only-field-spec : {M : Type 1} → statement M
 only-field-spec =
@@ -129,18 +98,8 @@ only-field-spec =
     mul-n
     shared-slice-read-n
     returns-4
-    add-f
-    mul-f
-    shared-slice-read-f
-    returns-5
-    add-t
-    mul-t
-    shared-slice-read-t
-    mul-t-2
-    add-t-2
-    mul-t-3
-    add-t-3
-    field-of-requires
-    returns-6
-    in-bounds-requires
-    returns-7)
+    add-field-fits
+    mul-field-fits
+    shared-slice-read-field-fits
+    field-fits-requires
+    returns-5)

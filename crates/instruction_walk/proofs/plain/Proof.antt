@@ -84,12 +84,6 @@ pair-requires-2 c κs = search needs
 returns-2 : tie.Need-returns-2
 returns-2 c = other
 
-unextended-requires : tie.Need-unextended-requires
-unextended-requires c κs = search needs
-
-returns-3 : tie.Need-returns-3
-returns-3 c = other
-
 add-result : tie.Need-add-result
 add-result c = search needs
 
@@ -99,8 +93,8 @@ mul-result c = search needs
 shared-slice-read-result : tie.Need-shared-slice-read-result
 shared-slice-read-result c = search needs
 
-returns-4 : tie.Need-returns-4
-returns-4 c = λ e. plain-row (c .before .before .before .before .before .before .before .before .before .before .before .before .args .instructions .now) (c .before .before .before .before .before .before .before .before .before .before .before .before .args .first) (⊎-elim (λ z. z .4 .ensures (not-false _ (z .5 .left))) (λ z. untested _ (c .before .before .before .before .before .before .before .before .pair .ensures .0) (z .left)) (c .before .before .before .before .before .before .before .if1 .came)) (below _ _ 16 (c .before .before .before .before .pair2 .ensures .0) (lit< tt) (c .before .before .before .if3 .left)) (c .before .before .unextended .ensures (not-false _ (c .before .if4 .left))) (unlike _ _ e)
+returns-3 : tie.Need-returns-3
+returns-3 c = λ e. plain-row (c .before .before .before .before .before .before .before .before .before .before .args .instructions .now) (c .before .before .before .before .before .before .before .before .before .before .args .first) (⊎-elim (λ z. z .4 .ensures (not-false _ (z .5 .left))) (λ z. untested _ (c .before .before .before .before .before .before .pair .ensures .0) (z .left)) (c .before .before .before .before .before .if1 .came)) (below _ _ 16 (c .before .before .pair2 .ensures .0) (lit< tt) (c .before .if3 .left)) (unlike _ _ e)
 
 pub plain-spec : {M : Type 1} → statement M
 plain-spec =
@@ -132,9 +126,7 @@ plain-spec =
     shared-slice-read-pair-4
     pair-requires-2
     returns-2
-    unextended-requires
-    returns-3
     add-result
     mul-result
     shared-slice-read-result
-    returns-4)
+    returns-3)

@@ -1,6 +1,7 @@
+use mathlib.Core.Path.{sym, _∙_}
 use native.Mathlib.Omega.{arith}
 use Rattle.layouts.proofs.Others.{is-counted}
-use Rattle.instruction_walk.proofs.Short.{counted-row, quickly}
+use Rattle.instruction_walk.proofs.Short.{counted-row}
 use Rattle.instruction_walk.proofs.Ways.{by-unread, by-known}
 use borrow.Author.Needs.{needs}
 use Rattle.instruction_walk.proofs.walk.Statement.{statement}
@@ -24,20 +25,23 @@ returns c = by-unread (c .before .before .before .before .before .before .args .
 operand-count-requires : tie.Need-operand-count-requires
 operand-count-requires c κs = search needs
 
-quick-requires : tie.Need-quick-requires
-quick-requires c κs = (c .before .before .before .before .before .before .before .pre .0, c .before .before .before .before .before .before .before .pre .1, c .if2 .taken, counted-row (c .before .before .before .before .before .before .before .args .instructions .now) (c .before .before .before .before .before .before .before .args .at) _ (is-counted _ _ (c .before .operand-count .ensures) (c .if2 .taken)) (omega (arith, c .before .before .if1 .left, c .before .before .before .before .before .before .before .pre .2)))
+by-count-requires : tie.Need-by-count-requires
+by-count-requires c κs = (c .before .before .before .before .before .before .before .pre .0, c .before .before .before .before .before .before .before .pre .1, counted-row (c .before .before .before .before .before .before .before .args .instructions .now) (c .before .before .before .before .before .before .before .args .at) _ (is-counted _ _ (c .before .operand-count .ensures) (c .if2 .taken)) (omega (arith, c .before .before .if1 .left, c .before .before .before .before .before .before .before .pre .2)))
 
-wide-requires : tie.Need-wide-requires
-wide-requires c κs = search needs
+enum-known-rows : tie.Need-enum-known-rows
+enum-known-rows c = search needs
 
 returns-2 : tie.Need-returns-2
-returns-2 c = by-known (c .before .before .before .before .before .before .before .before .before .before .args .instructions .now) (c .before .before .before .before .before .before .before .before .before .before .args .at) (c .before .before .before .before .before .before .before .before .before .before .args .place) (c .before .before .before .before .before .before .before .before .before .before .args .ceiling) (c .before .before .before .before .before .before .before .before .before .before .args .model51) (c .before .before .before .before .before .before .before .before .before .before .args .operands .now) (c .before .before .before .before .before .before .before .before .before .before .args .words .now) (c .before .before .before .before .before .before .before .before .before .before .args .row) (c .before .before .before .before .before .before .before .before .before .before .args .word) (c .before .before .before .before .before .if1 .left) (quickly (c .wide .ensures) (c .before .if3 .taken) (c .before .before .quick .ensures) _)
+returns-2 c = by-known (c .before .before .before .before .before .before .before .before .before .before .before .args .instructions .now) (c .before .before .before .before .before .before .before .before .before .before .before .args .at) (c .before .before .before .before .before .before .before .before .before .before .before .args .place) (c .before .before .before .before .before .before .before .before .before .before .before .args .ceiling) (c .before .before .before .before .before .before .before .before .before .before .before .args .model51) (c .before .before .before .before .before .before .before .before .before .before .before .args .operands .now) (c .before .before .before .before .before .before .before .before .before .before .before .args .words .now) (c .before .before .before .before .before .before .before .before .before .before .before .args .row) (c .before .before .before .before .before .before .before .before .before .before .before .args .word) (c .before .before .before .before .before .before .if1 .left) (sym (c .before .rows .given .1) ∙ c .before .before .before .by-count .ensures _ _ (c .before .rows .given .1) _)
 
-declared-or-known-requires : tie.Need-declared-or-known-requires
-declared-or-known-requires c κs = (c .before .before .before .before .before .before .before .pre .0, c .before .before .before .before .before .before .before .pre .1, omega (arith, c .before .before .if1 .left, c .before .before .before .before .before .before .before .pre .2))
+enum-told : tie.Need-enum-told
+enum-told c = search needs
+
+known-requires : tie.Need-known-requires
+known-requires c κs = search needs
 
 returns-3 : tie.Need-returns-3
-returns-3 c = by-known (c .before .before .before .before .before .before .before .before .args .instructions .now) (c .before .before .before .before .before .before .before .before .args .at) (c .before .before .before .before .before .before .before .before .args .place) (c .before .before .before .before .before .before .before .before .args .ceiling) (c .before .before .before .before .before .before .before .before .args .model51) (c .before .before .before .before .before .before .before .before .args .operands .now) (c .before .before .before .before .before .before .before .before .args .words .now) (c .before .before .before .before .before .before .before .before .args .row) (c .before .before .before .before .before .before .before .before .args .word) (c .before .before .before .if1 .left) (c .declared-or-known .ensures)
+returns-3 c = by-known (c .before .before .before .before .before .before .before .before .args .instructions .now) (c .before .before .before .before .before .before .before .before .args .at) (c .before .before .before .before .before .before .before .before .args .place) (c .before .before .before .before .before .before .before .before .args .ceiling) (c .before .before .before .before .before .before .before .before .args .model51) (c .before .before .before .before .before .before .before .before .args .operands .now) (c .before .before .before .before .before .before .before .before .args .words .now) (c .before .before .before .before .before .before .before .before .args .row) (c .before .before .before .before .before .before .before .before .args .word) (c .before .before .before .if1 .left) (c .known .ensures)
 
 pub walk-spec : {M : Type 1} → statement M
 walk-spec =
@@ -49,8 +53,9 @@ walk-spec =
     unread-requires
     returns
     operand-count-requires
-    quick-requires
-    wide-requires
+    by-count-requires
+    enum-known-rows
     returns-2
-    declared-or-known-requires
+    enum-told
+    known-requires
     returns-3)

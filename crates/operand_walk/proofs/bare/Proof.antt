@@ -1,8 +1,16 @@
+use mathlib.Core.Path.{_∙_}
+use native.Mathlib.Omega.{arith}
 use lib.Dec.{lit<}
-use Rattle.operand_walk.proofs.Alone.{other, apart, unmodified, at-word, unlike, bare-row}
+use Rattle.operand_walk.proofs.Alone.{other, lower, unmodified, unlike, starting, bare-row}
 use borrow.Author.Needs.{needs}
 use Rattle.operand_walk.proofs.bare.Statement.{statement}
 use Rattle.operand_walk.proofs.bare.Tie as tie
+
+shared-slice-read-if1 : tie.Need-shared-slice-read-if1
+shared-slice-read-if1 c = search needs
+
+returns : tie.Need-returns
+returns c = other
 
 shared-slice-read-pair : tie.Need-shared-slice-read-pair
 shared-slice-read-pair c = search needs
@@ -13,8 +21,8 @@ shared-slice-read-pair-2 c = search needs
 pair-requires : tie.Need-pair-requires
 pair-requires c κs = search needs
 
-returns : tie.Need-returns
-returns c = other
+returns-2 : tie.Need-returns-2
+returns-2 c = other
 
 shared-slice-read-pair-3 : tie.Need-shared-slice-read-pair-3
 shared-slice-read-pair-3 c = search needs
@@ -25,23 +33,8 @@ shared-slice-read-pair-4 c = search needs
 pair-requires-2 : tie.Need-pair-requires-2
 pair-requires-2 c κs = search needs
 
-returns-2 : tie.Need-returns-2
-returns-2 c = other
-
-shared-slice-read-if3 : tie.Need-shared-slice-read-if3
-shared-slice-read-if3 c = search needs
-
 returns-3 : tie.Need-returns-3
 returns-3 c = other
-
-shared-slice-read-selections : tie.Need-shared-slice-read-selections
-shared-slice-read-selections c = search needs
-
-selections-requires : tie.Need-selections-requires
-selections-requires c κs = search needs
-
-long-requires : tie.Need-long-requires
-long-requires c κs = search needs
 
 shared-slice-read-pair-5 : tie.Need-shared-slice-read-pair-5
 shared-slice-read-pair-5 c = search needs
@@ -64,8 +57,20 @@ shared-slice-read-pair-8 c = search needs
 pair-requires-4 : tie.Need-pair-requires-4
 pair-requires-4 c κs = search needs
 
+far-requires : tie.Need-far-requires
+far-requires c κs = search needs
+
 returns-5 : tie.Need-returns-5
 returns-5 c = other
+
+shared-slice-read-selections : tie.Need-shared-slice-read-selections
+shared-slice-read-selections c = search needs
+
+selections-requires : tie.Need-selections-requires
+selections-requires c κs = search needs
+
+long-requires : tie.Need-long-requires
+long-requires c κs = search needs
 
 shared-slice-read-pair-9 : tie.Need-shared-slice-read-pair-9
 shared-slice-read-pair-9 c = search needs
@@ -76,59 +81,34 @@ shared-slice-read-pair-10 c = search needs
 pair-requires-5 : tie.Need-pair-requires-5
 pair-requires-5 c κs = search needs
 
-far-requires : tie.Need-far-requires
-far-requires c κs = search needs
-
 returns-6 : tie.Need-returns-6
 returns-6 c = other
-
-shared-slice-read-pair-11 : tie.Need-shared-slice-read-pair-11
-shared-slice-read-pair-11 c = search needs
-
-shared-slice-read-pair-12 : tie.Need-shared-slice-read-pair-12
-shared-slice-read-pair-12 c = search needs
-
-pair-requires-6 : tie.Need-pair-requires-6
-pair-requires-6 c κs = search needs
-
-returns-7 : tie.Need-returns-7
-returns-7 c = other
-
-shared-slice-read-pair-13 : tie.Need-shared-slice-read-pair-13
-shared-slice-read-pair-13 c = search needs
-
-shared-slice-read-pair-14 : tie.Need-shared-slice-read-pair-14
-shared-slice-read-pair-14 c = search needs
-
-pair-requires-7 : tie.Need-pair-requires-7
-pair-requires-7 c κs = search needs
-
-returns-8 : tie.Need-returns-8
-returns-8 c = other
 
 shared-slice-read-result : tie.Need-shared-slice-read-result
 shared-slice-read-result c = search needs
 
-returns-9 : tie.Need-returns-9
-returns-9 c = λ e. bare-row (c .before .before .before .before .before .before .before .before .before .before .before .before .before .before .before .before .before .before .before .before .before .before .before .before .before .before .before .before .before .before .before .before .before .before .before .before .args .q .now) (c .before .before .before .before .before .before .before .before .before .before .before .before .before .before .before .before .before .before .before .before .before .before .before .before .before .before .before .before .before .before .before .before .before .before .before .before .args .word) (c .before .before .before .before .before .before .before .before .before .before .before .before .before .before .before .before .before .before .before .before .before .before .before .before .before .before .before .before .before .before .before .before .before .before .before .before .pre .0) (c .before .before .before .before .before .before .before .before .before .before .before .before .before .before .before .before .before .before .before .before .before .before .before .before .before .before .before .before .before .before .before .before .before .before .before .before .pre .1) (apart _ _ 1 2 (c .before .before .before .before .before .before .before .before .before .before .before .before .before .before .before .before .before .before .before .before .before .before .before .before .before .before .before .before .before .before .before .before .pair .ensures .0) (c .before .before .before .before .before .before .before .before .before .before .before .before .before .before .before .before .before .before .before .before .before .before .before .before .before .before .before .before .before .before .before .before .pair .ensures .1) (lit< tt) (c .before .before .before .before .before .before .before .before .before .before .before .before .before .before .before .before .before .before .before .before .before .before .before .before .before .before .before .before .before .before .before .if1 .left)) (apart _ _ 1 0 (c .before .before .before .before .before .before .before .before .before .before .before .before .before .before .before .before .before .before .before .before .before .before .before .before .before .before .before .before .pair2 .ensures .0) (c .before .before .before .before .before .before .before .before .before .before .before .before .before .before .before .before .before .before .before .before .before .before .before .before .before .before .before .before .pair2 .ensures .1) (lit< tt) (c .before .before .before .before .before .before .before .before .before .before .before .before .before .before .before .before .before .before .before .before .before .before .before .before .before .before .before .if2 .left)) (c .before .before .before .before .before .before .before .before .before .before .before .before .before .before .before .before .before .before .before .before .before .before .before .before .before .if3 .left) (unmodified (c .before .before .before .before .before .before .before .before .before .before .before .before .before .before .before .before .before .before .before .before .before .before .before .before .before .before .before .before .before .before .before .before .before .before .before .before .args .q .now) (c .before .before .before .before .before .before .before .before .before .before .before .before .before .before .before .before .before .before .before .before .before .before .before .selections .ensures) (c .before .before .before .before .before .before .before .before .before .before .before .before .before .before .before .before .before .before .before .before .before .before .long .ensures) (c .before .before .before .before .before .before .before .before .before .before .before .before .before .before .before .before .before .before .before .pair3 .ensures .0) (c .before .before .before .before .before .before .before .before .before .before .before .before .before .before .before .before .before .before .if4 .left)) (apart _ _ 0 0 (c .before .before .before .before .before .before .before .before .before .before .before .before .before .before .before .pair4 .ensures .0) (c .before .before .before .before .before .before .before .before .before .before .before .before .before .before .before .pair4 .ensures .1) (lit< tt) (c .before .before .before .before .before .before .before .before .before .before .before .before .before .before .if5 .left)) (at-word _ _ _ (c .before .before .before .before .before .before .before .before .before .before .before .pair5 .ensures .0) (c .before .before .before .before .before .before .before .before .before .before .before .pair5 .ensures .1) (c .before .before .before .before .before .before .before .before .before .before .before .before .before .before .before .before .before .before .before .before .before .before .before .before .before .before .before .before .before .before .before .before .before .before .before .before .pre .1) (c .before .before .before .before .before .before .before .before .before .before .far .ensures) (c .before .before .before .before .before .before .before .before .before .if6 .left)) (apart _ _ 0 0 (c .before .before .before .before .before .before .pair6 .ensures .0) (c .before .before .before .before .before .before .pair6 .ensures .1) (lit< tt) (c .before .before .before .before .before .if7 .left)) (apart _ _ 0 0 (c .before .before .pair7 .ensures .0) (c .before .before .pair7 .ensures .1) (lit< tt) (c .before .if8 .left)) (unlike _ _ e)
+returns-7 : tie.Need-returns-7
+returns-7 c = λ e h. bare-row (c .before .before .before .before .before .before .before .before .before .before .before .before .before .before .before .before .before .before .before .before .before .before .before .before .before .before .before .before .args .q .now) (c .before .before .before .before .before .before .before .before .before .before .before .before .before .before .before .before .before .before .before .before .before .before .before .before .before .before .before .before .args .word) 1 (c .before .before .before .before .before .before .before .before .before .before .before .before .before .before .before .before .before .before .before .before .before .before .before .before .before .before .before .before .pre .0) (c .before .before .before .before .before .before .before .before .before .before .before .before .before .before .before .before .before .before .before .before .before .before .before .before .before .before .before .before .pre .1)
+    (unmodified (c .before .before .before .before .before .before .before .before .before .before .before .before .before .before .before .before .before .before .before .before .before .before .before .before .before .before .before .before .args .q .now) (c .before .before .before .before .before .before .selections .ensures) (c .before .before .before .before .before .long .ensures) (c .before .before .pair5 .ensures .0) (c .before .if6 .left))
+    (starting (c .before .before .before .before .before .before .before .before .before .before .before .before .before .before .before .before .before .before .before .before .before .before .before .before .before .before .before .before .args .q .now) (c .before .before .before .before .before .before .before .before .before .before .before .before .before .before .before .before .before .before .before .before .before .before .before .before .before .before .before .before .args .word) (unlike _ _ e) (lower _ _ 0 (c .before .before .before .before .before .before .before .before .before .before .before .before .before .before .pair3 .ensures .0) (c .before .before .before .before .before .before .before .before .before .before .before .before .before .before .pair3 .ensures .1) (lit< tt) (c .before .before .before .before .before .before .before .before .before .before .before .before .before .if4 .left)) (lower _ _ (c .before .before .before .before .before .before .before .before .before .before .before .before .before .before .before .before .before .before .before .before .before .before .before .before .before .before .before .before .args .word) (c .before .before .before .before .before .before .before .before .before .before .pair4 .ensures .0) (c .before .before .before .before .before .before .before .before .before .before .pair4 .ensures .1) h (c .before .before .before .before .before .before .before .before .if5 .left ∙ c .before .before .before .before .before .before .before .before .before .far .ensures) .0) h)
+    (omega arith) (omega arith) (lower _ _ 1 (c .before .before .before .before .before .before .before .before .before .before .before .before .before .before .before .before .before .before .pair2 .ensures .0) (c .before .before .before .before .before .before .before .before .before .before .before .before .before .before .before .before .before .before .pair2 .ensures .1) (lit< tt) (c .before .before .before .before .before .before .before .before .before .before .before .before .before .before .before .before .before .if3 .left))
+    (lower _ _ (c .before .before .before .before .before .before .before .before .before .before .before .before .before .before .before .before .before .before .before .before .before .before .before .before .before .before .before .before .args .word) (c .before .before .before .before .before .before .before .before .before .before .pair4 .ensures .0) (c .before .before .before .before .before .before .before .before .before .before .pair4 .ensures .1) h (c .before .before .before .before .before .before .before .before .if5 .left ∙ c .before .before .before .before .before .before .before .before .before .far .ensures) .1)
+    (lower _ _ 0 (c .before .before .before .before .before .before .before .before .before .before .before .before .before .before .before .before .before .before .before .before .before .before .pair .ensures .0) (c .before .before .before .before .before .before .before .before .before .before .before .before .before .before .before .before .before .before .before .before .before .before .pair .ensures .1) (lit< tt) (c .before .before .before .before .before .before .before .before .before .before .before .before .before .before .before .before .before .before .before .before .before .if2 .left) .0) (lower _ _ 0 (c .before .before .before .before .before .before .before .before .before .before .before .before .before .before .before .before .before .before .before .before .before .before .pair .ensures .0) (c .before .before .before .before .before .before .before .before .before .before .before .before .before .before .before .before .before .before .before .before .before .before .pair .ensures .1) (lit< tt) (c .before .before .before .before .before .before .before .before .before .before .before .before .before .before .before .before .before .before .before .before .before .if2 .left) .1) (c .before .before .before .before .before .before .before .before .before .before .before .before .before .before .before .before .before .before .before .before .before .before .before .before .before .if1 .left)
 
 pub bare-spec : {M : Type 1} → statement M
 bare-spec =
     tie.close
     (tie.spec
+    shared-slice-read-if1
+    returns
     shared-slice-read-pair
     shared-slice-read-pair-2
     pair-requires
-    returns
+    returns-2
     shared-slice-read-pair-3
     shared-slice-read-pair-4
     pair-requires-2
-    returns-2
-    shared-slice-read-if3
     returns-3
-    shared-slice-read-selections
-    selections-requires
-    long-requires
     shared-slice-read-pair-5
     shared-slice-read-pair-6
     pair-requires-3
@@ -136,19 +116,14 @@ bare-spec =
     shared-slice-read-pair-7
     shared-slice-read-pair-8
     pair-requires-4
+    far-requires
     returns-5
+    shared-slice-read-selections
+    selections-requires
+    long-requires
     shared-slice-read-pair-9
     shared-slice-read-pair-10
     pair-requires-5
-    far-requires
     returns-6
-    shared-slice-read-pair-11
-    shared-slice-read-pair-12
-    pair-requires-6
-    returns-7
-    shared-slice-read-pair-13
-    shared-slice-read-pair-14
-    pair-requires-7
-    returns-8
     shared-slice-read-result
-    returns-9)
+    returns-7)

@@ -4,7 +4,7 @@ use native.Mathlib.Omega.{arith}
 use borrow.Author.Needs.{needs}
 use Rattle.reading.specs.Confirm.{confirmAll}
 use Rattle.reading.specs.Walks.{dwordsFrom, Walking}
-use Rattle.reading.proofs.Walks.{begin, from-here, to-whole, went-on, went-off, rows-left, words-left, all-told}
+use Rattle.reading.proofs.Walks.{begin, from-here, step-whole, walk-whole, went-on, went-off, rows-left, words-left, all-told}
 use Rattle.reading.proofs.walk_all.Statement.{statement}
 use Rattle.reading.proofs.walk_all.Tie as tie
 
@@ -14,29 +14,35 @@ Inv-loop instructions operands words ceiling model51 n s₀ s = Walking ceiling 
 abbrev μ-loop : tie.MeasureT-loop
 μ-loop instructions operands words ceiling model51 n s₀ s = length instructions / 16 - s .instruction
 
+ahead-requires : tie.Need-ahead-requires Inv-loop μ-loop
+ahead-requires c κs = (c .before .before .before .pre .0, c .before .before .before .pre .1, omega arith, c .before .before .before .pre .2, from-here (begin _ _ _ _ _))
+
 loop-holds : tie.Need-loop-holds Inv-loop μ-loop
-loop-holds c = begin _ _ _ _ _
+loop-holds c = walk-whole (begin _ _ _ _ _) (c .ahead .ensures .1)
 
 next-requires : tie.Need-next-requires Inv-loop μ-loop
-next-requires c κs = (c .if1 .taken, (c .before .before .before .before .before .before .pre), from-here (c .before .before .loop .inv))
+next-requires c κs = (c .if1 .taken, c .before .before .before .before .before .before .before .pre .2, from-here (c .before .before .loop .inv))
 
 enum-known-t : tie.Need-enum-known-t Inv-loop μ-loop
 enum-known-t c = search needs
 
+ahead-requires-2 : tie.Need-ahead-requires-2 Inv-loop μ-loop
+ahead-requires-2 c κs = (c .before .before .before .before .before .before .before .before .before .before .before .pre .0, c .before .before .before .before .before .before .before .before .before .before .before .pre .1, omega (arith, went-on (step-whole (c .before .before .before .before .before .before .loop .inv) (c .before .before .before .next .ensures)) (c .before .t .given .1) .0, c .before .before .before .before .if1 .taken), c .before .before .before .before .before .before .before .before .before .before .before .pre .2, from-here (went-on (step-whole (c .before .before .before .before .before .before .loop .inv) (c .before .before .before .next .ensures)) (c .before .t .given .1) .1))
+
 loop-less : tie.Need-loop-less Inv-loop μ-loop
-loop-less c = omega (arith, went-on (to-whole (c .before .before .before .before .before .before .loop .inv) (c .before .before .before .next .ensures)) (c .before .t .given .1) .0, c .before .before .before .before .if1 .taken)
+loop-less c = omega (arith, went-on (step-whole (c .before .before .before .before .before .before .before .loop .inv) (c .before .before .before .before .next .ensures)) (c .before .before .t .given .1) .0, c .ahead2 .ensures .0, c .before .before .before .before .before .if1 .taken)
 
 loop-again : tie.Need-loop-again Inv-loop μ-loop
-loop-again c = went-on (to-whole (c .before .before .before .before .before .before .loop .inv) (c .before .before .before .next .ensures)) (c .before .t .given .1) .1
+loop-again c = walk-whole (went-on (step-whole (c .before .before .before .before .before .before .before .loop .inv) (c .before .before .before .before .next .ensures)) (c .before .before .t .given .1) .1) (c .ahead2 .ensures .1)
 
 enum-told : tie.Need-enum-told Inv-loop μ-loop
 enum-told c = search needs
 
 returns : tie.Need-returns Inv-loop μ-loop
-returns c = went-off (to-whole (c .before .before .before .before .before .loop .inv) (c .before .before .next .ensures)) (c .enum-told .given .1)
+returns c = went-off (step-whole (c .before .before .before .before .before .loop .inv) (c .before .before .next .ensures)) (c .enum-told .given .1)
 
 mul-if2 : tie.Need-mul-if2 Inv-loop μ-loop
-mul-if2 c = omega (arith, c .before .before .before .loop .inv .row-within, c .before .before .before .before .before .before .before .good)
+mul-if2 c = omega (arith, c .before .before .before .loop .inv .row-within, c .before .before .before .before .before .before .before .before .good)
 
 returns-2 : tie.Need-returns-2 Inv-loop μ-loop
 returns-2 c = rows-left (c .before .before .before .before .loop .inv) (omega (arith, c .before .before .if1 .left)) (omega (arith, c .if2 .taken))
@@ -53,9 +59,11 @@ walk-all-spec =
     (tie.spec
     Inv-loop
     μ-loop
+    ahead-requires
     loop-holds
     next-requires
     enum-known-t
+    ahead-requires-2
     loop-less
     loop-again
     enum-told
