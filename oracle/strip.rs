@@ -10,19 +10,24 @@ use std::fs;
 
 /// The crates that `shex` is made of, leaves first: the reader's, and the encoder's and the calls on rows, which it has beside it and the
 /// copies do not call.
-const CRATES: [&str; 19] = [
+const CRATES: [&str; 24] = [
     "format",
     "tokens",
     "layouts",
     "operand",
     "operand_write",
     "header",
+    "instruction_fields",
     "instruction",
     "instruction_write",
     "stream",
+    "stream_write",
     "decode",
+    "operand_deep",
     "operand_walk",
+    "output",
     "operand_emit",
+    "instruction_deep",
     "instruction_walk",
     "instruction_emit",
     "reading",
@@ -73,7 +78,8 @@ fn line_of(line: &str) -> Option<String> {
     }
     let is_type = ["enum ", "struct ", "pub enum ", "pub struct "].iter().any(|word| line.starts_with(word));
     let derive = if is_type { "#[derive(Clone, Copy)]\n" } else { "" };
-    Some(format!("{derive}{}", line.replace("extern \"C\" ", "")))
+    let line = line.replace("extern \"C\" ", "").replace("std::num::wrapping_sub_u32(", "u32::wrapping_sub(");
+    Some(format!("{derive}{line}"))
 }
 
 fn main() {

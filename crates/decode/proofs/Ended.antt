@@ -25,8 +25,9 @@ use Rattle.stream.specs.declared.Measured.the-variants.{Fine, Refused as Stoppe
 use Rattle.stream.specs.Stream.{passes, measured}
 use Rattle.stream.proofs.Outcomes.{refused-body, fine-body}
 use Rattle.operand_write.proofs.Lists.{over-front}
-use Rattle.decode.specs.declared.Mark.{Mark}
-use Rattle.decode.specs.Decode.{start, stream, rest, Writing, Left, Entered, Ends}
+use Rattle.stream_write.specs.declared.Mark.{Mark}
+use Rattle.stream_write.specs.Writing.{start, stream, rest, Writing, Left}
+use Rattle.decode.specs.Decode.{Entered, Ends}
 
 -- refusals past the header are 11 to 14
 abbrev Late : Option Refusal → Type 0

@@ -1,4 +1,3 @@
-mod Marks
 mod Ended
 mod Decodes
 mod Unique

@@ -11,10 +11,11 @@ use Rattle.format.specs.Dwords.{bytesOf}
 use Rattle.format.specs.Instructions.{Instruction, dwords, allDwords}
 use Rattle.format.specs.Rows.{partsRows, parts}
 use Rattle.format.specs.Encoder.{at}
-use Rattle.operand_emit.specs.Emits.{put, rowFrom}
-use Rattle.operand_emit.proofs.Puts.{dwords-length, dwords-none, dwords-more}
+use Rattle.output.specs.Puts.{put}
+use Rattle.operand_emit.specs.Emits.{rowFrom}
+use Rattle.output.proofs.Puts.{dwords-length, dwords-none, dwords-more}
 use Rattle.operand_emit.proofs.Trees.{number-behind}
-use Rattle.instruction_walk.specs.Confirm.{confirmInstruction}
+use Rattle.instruction_deep.specs.Confirm.{confirmInstruction}
 use Rattle.instruction_emit.specs.Emits.{Is, Ready, Stands}
 use Rattle.instruction_emit.specs.declared.Ends.{Ends}
 use Rattle.encode.specs.declared.Spot.{Spot}

@@ -20,7 +20,7 @@ use Rattle.format.specs.Refusals.{Rows, SHEX, firstOf, headerTests, isModel51}
 use Rattle.format.specs.Encoder.{pastPool, held, chunkOf, chunkGiving, into, Encoding, unencoded, encoded, encode, encodeAnswer, outputAfter}
 use Rattle.format.proofs.Dwords.{impossible, both, length-bytes}
 use Rattle.format.proofs.Encoder.{Counts, counts}
-use Rattle.operand_emit.specs.Emits.{put}
+use Rattle.output.specs.Puts.{put}
 use Rattle.reading.specs.declared.Read.{Read}
 use Rattle.reading.specs.declared.Read.the-variants.{Of, No}
 use Rattle.reading.specs.Confirm.{untold, confirmAll, confirmChunk}

@@ -2,7 +2,7 @@
 use Rattle.format.specs.Basis.{ℕ, _+_, _*_, _/_, _^_, _<_, _≤_, _≡_, List, Option, some as just, Bool, length, take}
 use Rattle.format.specs.Dwords.{bytesOf}
 use Rattle.format.specs.Instructions.{Instruction, allDwords}
-use Rattle.operand_emit.specs.Emits.{put}
+use Rattle.output.specs.Puts.{put}
 use Rattle.reading.specs.declared.Walk.{Walk}
 use Rattle.format.specs.declared.Encoded.{Encoded}
 use Rattle.encode.specs.declared.Spot.{Spot}

@@ -6,7 +6,7 @@ ghost use Rattle.encode.specs.Encode as e;
 ghost use Rattle.encode.specs.Emits as w;
 use format::Encoded;
 use format::Refusal;
-use operand_emit::put_dword;
+use output::put_dword;
 use reading::Read;
 
 // How far the writing has come: dwords of the chunk, the places where the rows of the next instruction and of its first operand

@@ -1,10 +1,6 @@
-pub mod Items
-pub mod Passing
 pub mod Shaped
 pub mod Runs
 pub mod Usually
 pub mod Verdicts
-pub mod Tokens
-pub mod Chained
 pub mod Counted
 pub mod Quickly

@@ -19,8 +19,9 @@ use Rattle.operand.specs.Measures.{measured}
 use Rattle.operand.specs.declared.Measured.{Measured}
 use Rattle.operand.specs.declared.Measured.the-variants.{Read as MeasuredRead, Malformed}
 use Rattle.instruction.specs.declared.Operands.the-variants.{Read, Lost}
-use Rattle.instruction.specs.Measure.{off, add, sumOf, Run, ran, lost as lost-run}
-use Rattle.instruction.proofs.Items.{add-add, add-zero, item-step, item-off}
+use Rattle.instruction_fields.specs.Fields.{off, add, sumOf}
+use Rattle.instruction.specs.Measure.{Run, ran, lost as lost-run}
+use Rattle.instruction_fields.proofs.Items.{add-add, add-zero, item-step, item-off}
 
 -- what is left after an operand stands past its dwords
 made : {ds : List ℕ} {g : Got Tree} {t : Tree} {r : List ℕ} → All (λ x left. op.dwords x ++ left ≡ ds) g → g ≡ got t r → op.dwords t ++ r ≡ ds

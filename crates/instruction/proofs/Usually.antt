@@ -27,7 +27,7 @@ use Rattle.operand.proofs.FlatTrees.{measured-short, measured-flat}
 use Rattle.instruction.specs.declared.Operands.the-variants.{Read, Lost}
 use Rattle.instruction.specs.declared.Surplus.{Surplus}
 use Rattle.instruction.specs.declared.Surplus.the-variants.{Read as SurplusRead, Lost as SurplusLost}
-use Rattle.instruction.specs.Measure.{Run, lost, surplus}
+use Rattle.instruction.specs.Measure.{Run, surplus}
 use Rattle.instruction.proofs.Runs.{Reading, begin, Told, told, untold, turn, taken, finished, stopped}
 
 and-true : (a : Bool) → (a && true) ≡ a

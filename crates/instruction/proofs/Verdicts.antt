@@ -1,33 +1,28 @@
 -- From the sums of an instruction's parts to its verdict.
-use Prim.Native.Nat.{ℕ, suc, _+_, _-_, _%_, _≤_, _<_}
+use Prim.Native.Nat.{ℕ, _-_, _≤_, _<_}
 use mathlib.Core.Path.{_≡_, refl, sym, ap, _∙_, subst}
 use mathlib.Core.List.{List, [], _∷_, _++_, append-nil}
 use mathlib.Core.Bool.{Bool, true, false, cond, _&&_}
-use lib.ListN.{length, getD, take, drop, length-drop, length-append, length-replicate}
-use lib.Seq.{drop-drop, take-at, drop-at, slice}
-use lib.Dec.{ltb, eqb}
+use lib.ListN.{length, getD, drop, length-drop}
+use lib.Seq.{slice}
 use native.Mathlib.Omega.{arith}
 use borrow.Author.Tests.{lt-ltb, le-ltb, eq-eqb, ne-eqb}
-use Rattle.layouts.specs.Shapes.{listed, tailed, itemsOf}
-use Rattle.layouts.specs.declared.Shape.{Shape}
-use Rattle.format.specs.Dwords.{bits, Got, malformed, got, then, dword, noneLeft}
+use Rattle.format.specs.Dwords.{Got, malformed, got, then, dword, noneLeft}
 use Rattle.format.specs.Framing.{code, codeOf}
-use Rattle.format.specs.Counts.{Fields, tokenWith, rising}
-use Rattle.format.specs.Declarations.{list, Layout, layout, inBounds}
+use Rattle.format.specs.Declarations.{Layout, layout}
 use Rattle.format.specs.Operands as op
 use Rattle.format.specs.Operands.{Tree}
-use Rattle.format.specs.Instructions.{Instruction, pieces, ok, inexact, readHead, readItems, split, fault, fieldsOf, extensions, exactClass, exactPieces, checked, judged, read}
+use Rattle.format.specs.Instructions.{Instruction, pieces, ok, inexact, readHead, readItems, split, fault, exactClass, exactPieces, checked, judged, read}
 use Rattle.format.specs.Rows.{partsRows, partsWords, parts, treeWords, treeRows}
 use Rattle.format.proofs.Dwords.{impossible, All, unmet, met}
-use Rattle.format.proofs.Instructions.{makes-items, makes-head}
-use Rattle.tokens.specs.Chains.{ends}
-use Rattle.tokens.specs.declared.Skip.{Skip}
-use Rattle.tokens.specs.declared.Skip.the-variants.{To, Off}
+use Rattle.format.proofs.Instructions.{makes-items}
 use Rattle.instruction.specs.declared.Body.{Body}
 use Rattle.instruction.specs.declared.Body.the-variants.{Read as BodyRead, Off as BodyOff}
 use Rattle.instruction.specs.declared.Verdict.{Verdict}
 use Rattle.instruction.specs.declared.Verdict.the-variants.{Fine, Miscounted, Inexact}
-use Rattle.instruction.specs.Measure.{Sum, off, sum, total, sumOf, bodyOf, verdict, headed, classed}
+use Rattle.instruction_fields.specs.Fields.{Sum, off, sum, total, sumOf, headed}
+use Rattle.instruction.specs.Measure.{bodyOf, verdict}
+use Rattle.instruction_fields.proofs.Heads.{Headed}
 
 -- a code not known
 pub verdict-unread : (c : ℕ) (m : Bool) (ds : List ℕ) → c ≤ codeOf ds → Fine 0 (length ds) ≡ verdict (read c m ds)
@@ -64,42 +59,6 @@ parts-left {ps = ps} (met {a = qs} {r = r} p) e =
 pub verdict-known : (c : ℕ) (m : Bool) (ds : List ℕ) (t : ℕ) → t ≡ getD ds 0 0 → code t < c → verdict (judged (layout (code t)) (split m (layout (code t)) ds)) ≡ verdict (read c m ds)
 unfolding read codeOf
 verdict-known c m ds t et k = rw (← et, lt-ltb (code t) c k)
-
--- what stands behind a token: the place where it ends says what it is
-head-made : {l e r : List ℕ} {g : Got (List ℕ)} → All (λ x left. x ++ left ≡ l) g → g ≡ got e r → e ++ r ≡ l
-head-made unmet q = impossible (cc)
-head-made {e = e} {r = r} (met {a = x} {r = left} p) q = let a : x ≡ e = cc in let b : left ≡ r = cc in rw (a, b) at p
-
-slice-one : (ds y r : List ℕ) (b : ℕ) → b ≡ 1 + length y → 0 < length ds → y ++ r ≡ drop 1 ds → slice 1 b ds ≡ y
-slice-one [] y r b e h p = impossible (omega arith)
-slice-one (z ∷ ds) y r b e h p =
-    let n : b ≡ suc (length y) = omega arith in
-    ap (λ (i : ℕ). slice 1 i (z ∷ ds)) n ∙ ap (λ (l : List ℕ). take (length y) l) (sym p) ∙ take-at y r (length y) refl
-
-pub record Headed (x : Layout) (t : ℕ) (ds : List ℕ) (b : ℕ) : Type 0 where
-  pub begun : 1 ≤ b
-  pub within : b ≤ length ds
-  pub is : readHead x t (drop 1 ds) ≡ got (slice 1 b ds) (drop b ds)
-
-pub headed-at : (x : Layout) (t : ℕ) (ds : List ℕ) → 0 < length ds → {b : ℕ} {a : Skip} → a ≡ ends 1 (readHead x t (drop 1 ds)) → a ≡ To b → Headed x t ds b
-headed-at x t ds h {b} ea eb = go (readHead x t (drop 1 ds)) refl (sym eb ∙ ea)
-  where
-    go : (g : Got (List ℕ)) → readHead x t (drop 1 ds) ≡ g → To b ≡ ends 1 g → Headed x t ds b
-    go malformed e z = impossible (cc)
-    go (got y r) e z =
-        let n : b ≡ 1 + length y = cc in
-        let p : y ++ r ≡ drop 1 ds = head-made (makes-head x t (drop 1 ds)) e in
-        let k : length y + length r ≡ length ds - 1 = sym (length-append y r) ∙ ap length p ∙ length-drop 1 ds in
-        let q : slice 1 b ds ≡ y = slice-one ds y r b n h p in
-        let w : drop b ds ≡ r = ap (λ (i : ℕ). drop i ds) n ∙ sym (drop-drop (length y) 1 ds) ∙ ap (drop (length y)) (sym p) ∙ drop-at y r (length y) refl in
-        record { begun = omega arith; within = omega arith; is = rw (q, w) e }
-
-pub head-off : (x : Layout) (t : ℕ) (ds : List ℕ) {a : Skip} → a ≡ ends 1 (readHead x t (drop 1 ds)) → a ≡ Off → readHead x t (drop 1 ds) ≡ malformed
-head-off x t ds ea eb = go (readHead x t (drop 1 ds)) (sym eb ∙ ea)
-  where
-    go : (g : Got (List ℕ)) → Off ≡ ends 1 g → g ≡ malformed
-    go malformed z = refl
-    go (got y r) z = impossible (cc)
 
 module _ (x : Layout) (m : Bool) (ds : List ℕ) (t : ℕ) (h : 0 < length ds) (et : t ≡ getD ds 0 0) where
   split-head : split m x ds ≡ then (readHead x t (drop 1 ds)) (λ e r. then (readItems m (x .items) r) (λ ps. noneLeft (pieces t e ps)))
@@ -183,36 +142,6 @@ module _ (x : Layout) (m : Bool) (ds : List ℕ) (t : ℕ) (h : 0 < length ds) (
       pub all-fine : ex ≡ true → (c : Bool) → c ≡ headed x t e (length ds - b) → c ≡ true → Fine rows words ≡ verdict (judged x (split m x ds))
       all-fine z c f w = sym (rw (z, ← f, w) at (sym (items-kept (told p q))))
 
--- ---- the code's tests
-module _ (kind t n : ℕ) where
-  pub another-kind : (kind ≡ 5 → ⊥) → true ≡ classed kind t n
-  another-kind h = rw (ne-eqb kind 5 h)
-
-  pub another-class : kind ≡ 5 → (bits 11 15 t ≡ 3 → ⊥) → true ≡ classed kind t n
-  another-class e h = rw (eq-eqb kind 5 e, ne-eqb (bits 11 15 t) 3 h)
-
-  pub class-3 : kind ≡ 5 → bits 11 15 t ≡ 3 → eqb (n % 4) 0 ≡ classed kind t n
-  class-3 e f = rw (eq-eqb kind 5 e, eq-eqb (bits 11 15 t) 3 f)
-
-module _ (x : Layout) (t : ℕ) (e : List ℕ) (n : ℕ) (b₁ : Bool) (e₁ : b₁ ≡ eqb t (tokenWith (code t) (fieldsOf x t))) where
-  pub token-wrong : b₁ ≡ false → false ≡ headed x t e n
-  unfolding headed
-  token-wrong z = rw (← e₁, z)
-
-  module _ (z₁ : b₁ ≡ true) (b₂ : Bool) (e₂ : b₂ ≡ rising 0 (cond (ltb (x .kind) 3) e [])) where
-    pub chain-wrong : b₂ ≡ false → false ≡ headed x t e n
-    unfolding headed extensions
-    chain-wrong z = rw (← e₁, z₁, ← e₂, z)
-
-    module _ (z₂ : b₂ ≡ true) (b₃ : Bool) (e₃ : b₃ ≡ inBounds (x .field) t) where
-      pub field-wrong : b₃ ≡ false → false ≡ headed x t e n
-      unfolding headed extensions
-      field-wrong z = rw (← e₁, z₁, ← e₂, z₂, ← e₃, z)
-
-      pub class-decides : b₃ ≡ true → (b₄ : Bool) → b₄ ≡ classed (x .kind) t n → b₄ ≡ headed x t e n
-      unfolding headed extensions
-      class-decides z b₄ e₄ = rw (← e₁, z₁, ← e₂, z₂, ← e₃, z, ← e₄)
-
 -- the fault
 module _ (x : Layout) where
   pub uncounted : (x .kind ≡ 1 → ⊥) → Inexact ≡ verdict (fault x)
@@ -226,40 +155,6 @@ module _ (x : Layout) where
   pub count-above : x .kind ≡ 1 → (n : ℕ) → n ≡ length (x .items) → 1 < n → Miscounted ≡ verdict (fault x)
   unfolding fault
   count-above e n f h = rw (eq-eqb (x .kind) 1 e, ← f, lt-ltb 1 n h)
-
-pub no-list : (b : ℕ) → b ≡ 0 → 0 ≡ length (listed b)
-no-list b e = rw e
-
-pub one-list : (b : ℕ) → (b ≡ 0 → ⊥) → 1 ≡ length (listed b)
-one-list b n = rw (ne-eqb b 0 n)
-
-pub item-sum : (x : Shape) (l t : ℕ) → l ≡ length (listed (x .list)) → t ≡ length (tailed (x .tail)) → x .before + x .operands + x .small + x .after + x .extra + l + t ≡ length (itemsOf x)
-unfolding itemsOf
-item-sum x l t e f = rw (e, f) (simp (length-append, length-replicate) (omega arith))
-
-pub by-fields : (t : ℕ) (f g : Fields) → f ≡ g → eqb t (tokenWith (code t) f) ≡ eqb t (tokenWith (code t) g)
-by-fields t f g e = ap (λ (h : Fields). eqb t (tokenWith (code t) h)) e
-
-pub by-dwords : (kind t n k b : ℕ) → n ≡ k → classed kind t (n - b) ≡ classed kind t (k - b)
-by-dwords kind t n k b e = ap (λ (i : ℕ). classed kind t (i - b)) e
-
-pub chained-head : (kind : ℕ) (e : List ℕ) {b : Bool} → kind < 3 → b ≡ rising 0 e → b ≡ rising 0 (cond (ltb kind 3) e [])
-chained-head kind e h z = rw (lt-ltb kind 3 h) z
-
-pub unchained-head : (kind : ℕ) (e : List ℕ) → 3 ≤ kind → true ≡ rising 0 (cond (ltb kind 3) e [])
-unfolding rising
-unchained-head kind e h = rw (le-ltb kind 3 h)
-
-pub few-lists : (b r : ℕ) → r ≡ length (listed b) → r ≤ 1
-few-lists b r e = go (eqb b 0) e
-  where
-    go : (x : Bool) → r ≡ length (cond x [] (list b ∷ [])) → r ≤ 1
-    go true e = omega arith
-    go false e = omega arith
-
-pub few-tails : (b : Bool) (r : ℕ) → r ≡ length (tailed b) → r ≤ 1
-few-tails true r e = omega arith
-few-tails false r e = omega arith
 
 pub verdict-unread-at : (c : ℕ) (m : Bool) (ds : List ℕ) (t : ℕ) → t ≡ getD ds 0 0 → (n : ℕ) → n ≡ length ds → c ≤ code t → Fine 0 n ≡ verdict (read c m ds)
 unfolding codeOf

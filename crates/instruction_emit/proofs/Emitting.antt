@@ -16,13 +16,14 @@ use Rattle.format.specs.Operands.{Tree}
 use Rattle.format.specs.Instructions.{Instruction, unread, pieces, dwords}
 use Rattle.format.specs.Rows.{treeRows, treeWords, partsRows, partsWords, topLevel, parts}
 use Rattle.format.specs.Encoder.{at, tokenOfRow, headOfRow}
-use Rattle.operand_walk.specs.Confirm.{confirm, behind}
-use Rattle.operand_walk.proofs.Every.{met, every-then, every-of}
-use Rattle.operand_walk.proofs.Fields.{row-at}
+use Rattle.operand_deep.specs.Confirm.{confirm, behind}
+use Rattle.operand_deep.proofs.Every.{met, every-then, every-of}
+use Rattle.operand_deep.proofs.Fields.{row-at}
 use Rattle.operand_emit.specs.Emits as emits
-use Rattle.operand_emit.specs.Emits.{put, rowFrom, standing, treeIn, Headed}
+use Rattle.output.specs.Puts.{put, Headed}
+use Rattle.operand_emit.specs.Emits.{rowFrom, standing, treeIn}
 use Rattle.operand_emit.specs.declared.Ends as operand-ends
-use Rattle.operand_emit.proofs.Puts.{dwords-length, dwords-none, dwords-more}
+use Rattle.output.proofs.Puts.{dwords-length, dwords-none, dwords-more}
 use Rattle.operand_emit.proofs.Trees.{number-behind}
 use Rattle.instruction_emit.specs.declared.Ends.{Ends}
 use Rattle.instruction_emit.specs.declared.Place.{Place}

@@ -12,9 +12,10 @@ use Rattle.format.specs.Counts.{within, numbers}
 use Rattle.format.specs.Declarations.{inTable, layout, chained}
 use Rattle.format.specs.Encoder.{at, chainOf, sizedRow, tokenOfRow, headOfRow}
 use Rattle.format.proofs.Dwords.{impossible}
-use Rattle.operand_walk.proofs.Fields.{row-at}
-use Rattle.operand_emit.specs.Emits.{put, rowFrom, Headed}
-use Rattle.operand_emit.proofs.Puts.{dwords-none, dwords-more}
+use Rattle.operand_deep.proofs.Fields.{row-at}
+use Rattle.output.specs.Puts.{put, Headed}
+use Rattle.operand_emit.specs.Emits.{rowFrom}
+use Rattle.output.proofs.Puts.{dwords-none, dwords-more}
 use Rattle.instruction_emit.specs.Emits.{packed, lowOf, sizedBy, Fits, headOf, HeadReady, Bare}
 
 -- ---- bit 31

@@ -17,9 +17,9 @@ use Rattle.format.specs.Operands.{Tree, none, plain, node}
 use Rattle.format.specs.Rows.{treeWords, treeRows, operandRow, partsWords, partsRows, topLevel}
 use Rattle.format.specs.Encoder.{at, extensionOf, operandDword, same}
 use Rattle.format.proofs.Dwords.{impossible, both}
-use Rattle.operand_walk.specs.Confirm.{Confirmer, behind, confirmIndex, confirmed, confirmImmediates, confirmIndices, confirmFront, confirm}
-use Rattle.operand_walk.proofs.Every.{Every, unmet, met, every-then, every-if}
-use Rattle.instruction_walk.specs.Confirm.{confirmWords, confirmItem, confirmItems}
+use Rattle.operand_deep.specs.Confirm.{Confirmer, behind, confirmIndex, confirmed, confirmImmediates, confirmIndices, confirmFront, confirm}
+use Rattle.operand_deep.proofs.Every.{Every, unmet, met, every-then, every-if}
+use Rattle.instruction_deep.specs.Confirm.{confirmWords, confirmItem, confirmItems}
 use Rattle.instruction_emit.specs.Emits.{confirmRun, before}
 
 -- what there is, with its equation

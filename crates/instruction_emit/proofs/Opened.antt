@@ -19,11 +19,11 @@ use Rattle.format.specs.Encoder.{at, sizedRow, tokenOfRow, headOfRow, same}
 use Rattle.format.proofs.Dwords.{impossible, both}
 use Rattle.format.proofs.Chains.{rose}
 use Rattle.format.proofs.Remade.{kind-positive}
-use Rattle.instruction.specs.Measure.{classed, headed}
-use Rattle.operand_walk.proofs.Every.{Every, unmet, met, every-then, every-if, every-of}
-use Rattle.instruction_walk.specs.Confirm.{headTaken, confirmPieces, confirmKnown, confirmUnread, confirmInstruction}
-use Rattle.instruction_walk.proofs.Layouts.{token-below}
-use Rattle.instruction_walk.proofs.Sound.{sound}
+use Rattle.instruction_fields.specs.Fields.{classed, headed}
+use Rattle.operand_deep.proofs.Every.{Every, unmet, met, every-then, every-if, every-of}
+use Rattle.instruction_deep.specs.Confirm.{headTaken, confirmPieces, confirmKnown, confirmUnread, confirmInstruction}
+use Rattle.instruction_deep.proofs.Layouts.{token-below}
+use Rattle.instruction_deep.proofs.Sound.{sound}
 use Rattle.instruction_emit.specs.Emits.{Is, Fits, before}
 use Rattle.instruction_emit.proofs.Items.{Around, items-around}
 

@@ -13,10 +13,10 @@ use Rattle.format.specs.Operands.{Tree}
 use Rattle.format.specs.Instructions.{Instruction, dwords}
 use Rattle.format.specs.Rows.{partsRows, partsWords, parts}
 use Rattle.format.specs.Encoder.{at, sizedRow, tokenOfRow, headOfRow}
-use Rattle.operand_walk.specs.Confirm.{Confirms, _>>=_, behind, confirm}
-use Rattle.operand_emit.specs.Emits.{put, Headed}
+use Rattle.operand_deep.specs.Confirm.{Confirms, _>>=_, behind, confirm}
+use Rattle.output.specs.Puts.{put, Headed}
 use Rattle.operand_emit.specs.declared.Ends as operand-ends
-use Rattle.instruction_walk.specs.Confirm.{confirmInstruction}
+use Rattle.instruction_deep.specs.Confirm.{confirmInstruction}
 use Rattle.instruction_emit.specs.declared.Ends.{Ends}
 use Rattle.instruction_emit.specs.declared.Place.{Place}
 

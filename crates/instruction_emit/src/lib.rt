@@ -7,11 +7,12 @@ ghost use lib.ListN.{length, take, drop};
 ghost use lib.Dec.{ltb};
 ghost use Rattle.format.specs.Dwords.{bytesOf};
 ghost use Rattle.format.specs.Encoder as e;
-ghost use Rattle.operand_emit.specs.Emits.{put, rowFrom, Headed};
+ghost use Rattle.output.specs.Puts.{put, Headed};
+ghost use Rattle.operand_emit.specs.Emits.{rowFrom};
 ghost use Rattle.instruction_emit.specs.Emits as w;
-use operand_emit::copy;
-use operand_emit::put_dword;
-use operand_walk::pair;
+use operand_deep::pair;
+use output::copy;
+use output::put_dword;
 
 // The place where the operand row behind what was written begins, and the dword of the output behind it.
 pub struct Ends {

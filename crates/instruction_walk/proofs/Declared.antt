@@ -19,19 +19,21 @@ use Rattle.format.proofs.Each.{member}
 use Rattle.layouts.specs.Shapes.{meant, fieldOf, itemsOf}
 use Rattle.layouts.specs.declared.Shape.{Shape}
 use Rattle.operand_walk.specs.Walks.{Run, empty, next, Ran}
-use Rattle.operand_walk.proofs.Fields.{row-at}
-use Rattle.instruction.specs.Measure.{Declared, rest}
-use Rattle.instruction.specs.declared.Place.{Place}
-use Rattle.instruction.specs.declared.Place.the-variants.{At, Off}
-use Rattle.instruction_walk.specs.Confirm.{confirmKnown}
-use Rattle.instruction_walk.specs.Walks.{walkedInstruction, Takes, PassesIn, wordsOn, Runs, rowFrom, Decides, holds, Unchained, Headed, Fielded, Pieces, Placed, Fitting, shortToken, OnlyField, Lone}
-use Rattle.instruction_walk.specs.declared.Walked.the-variants.{Is}
-use Rattle.instruction_walk.specs.declared.Parts.the-variants.{To}
-use Rattle.instruction_walk.proofs.Deciding.{granted}
-use Rattle.instruction_walk.proofs.Items.{bounds}
-use Rattle.instruction_walk.proofs.Heads.{no-dword, bare-head}
-use Rattle.instruction_walk.proofs.Runs.{begin, finished, run-takes, first-bounds, third-bounds, all-parts}
-use Rattle.instruction_walk.proofs.Ways.{walks}
+use Rattle.operand_deep.proofs.Fields.{row-at}
+use Rattle.instruction_fields.specs.Fields.{Declared, rest}
+use Rattle.instruction_fields.specs.declared.Place.{Place}
+use Rattle.instruction_fields.specs.declared.Place.the-variants.{At, Off}
+use Rattle.instruction_deep.specs.Confirm.{confirmKnown}
+use Rattle.instruction_deep.specs.Walks.{walkedInstruction, Takes, PassesIn, wordsOn, Runs, rowFrom, Decides, holds, Unchained, Headed, Fielded, Pieces, Placed}
+use Rattle.instruction_walk.specs.Short.{Fitting, shortToken, OnlyField, Lone}
+use Rattle.instruction_deep.specs.declared.Walked.the-variants.{Is}
+use Rattle.instruction_deep.specs.declared.Parts.the-variants.{To}
+use Rattle.instruction_deep.proofs.Deciding.{granted}
+use Rattle.instruction_deep.proofs.Items.{bounds}
+use Rattle.instruction_deep.proofs.Heads.{no-dword, bare-head}
+use Rattle.instruction_deep.proofs.Runs.{begin, finished, first-bounds, third-bounds, all-parts}
+use Rattle.instruction_walk.proofs.Alone.{run-takes}
+use Rattle.instruction_deep.proofs.Ways.{walks}
 
 -- ---- the token
 and-no : (b : Bool) → (b && false) ≡ false

@@ -14,7 +14,7 @@ use Rattle.layouts.specs.Shapes.{Sound, fieldOf}
 use Rattle.layouts.specs.Table.{shapeOf}
 use Rattle.layouts.specs.declared.Shape.{Shape}
 use Rattle.layouts.proofs.Fields as fields
-use Rattle.instruction_walk.specs.Walks.{Stepped, Fitting}
+use Rattle.instruction_walk.specs.Short.{Stepped, Fitting}
 
 -- the lowest k of n bits
 low-bits : (y n k g : ℕ) → k ≤ n → y % 2 ^ n ≡ g → y % 2 ^ k ≡ g % 2 ^ k

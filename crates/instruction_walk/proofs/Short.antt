@@ -22,23 +22,24 @@ use Rattle.layouts.specs.Table.{plainShape, widthOf}
 use Rattle.layouts.specs.declared.Shape.{Shape}
 use Rattle.layouts.proofs.Others.{counts}
 use Rattle.layouts.proofs.Fields.{value, unbounded}
-use Rattle.operand_walk.proofs.Fields.{row-at}
-use Rattle.instruction.specs.Measure.{classed}
-use Rattle.instruction.specs.declared.Place.{Place}
-use Rattle.instruction.specs.declared.Place.the-variants.{At}
-use Rattle.instruction.proofs.Counted.{unsized}
-use Rattle.instruction_walk.specs.Walks.{Takes, Runs, rowFrom, Decides, holds, Counts, Unchained, Headed, Fielded, Pieces, Placed, Counted, Bits, Plain, Ready, chainIn, Linked, Known}
-use Rattle.instruction_walk.specs.declared.Walked.the-variants.{Is, Not}
-use Rattle.instruction_walk.specs.declared.Parts.{Parts}
-use Rattle.instruction_walk.specs.declared.Parts.the-variants.{To}
+use Rattle.operand_deep.proofs.Fields.{row-at}
+use Rattle.instruction_fields.specs.Fields.{classed}
+use Rattle.instruction_fields.specs.declared.Place.{Place}
+use Rattle.instruction_fields.specs.declared.Place.the-variants.{At}
+use Rattle.instruction_fields.proofs.Counted.{unsized}
+use Rattle.instruction_deep.specs.Walks.{Takes, Runs, rowFrom, Decides, holds, Counts, Unchained, Headed, Fielded, Pieces, Placed}
+use Rattle.instruction_walk.specs.Short.{Counted, Bits, Plain, Ready, chainIn, Linked, Known}
+use Rattle.instruction_deep.specs.declared.Walked.the-variants.{Is, Not}
+use Rattle.instruction_deep.specs.declared.Parts.{Parts}
+use Rattle.instruction_deep.specs.declared.Parts.the-variants.{To}
 use Rattle.operand_walk.specs.Walks.{Ran}
-use Rattle.instruction_walk.proofs.Runs.{run-takes}
-use Rattle.instruction_walk.proofs.Deciding.{granted, told, word-0}
-use Rattle.instruction_walk.proofs.Items.{bounds, takes-then, lent-runs, all-few}
-use Rattle.instruction_walk.proofs.Passing.{all-words}
-use Rattle.instruction_walk.proofs.Chains.{bit-below, bit-is}
-use Rattle.instruction_walk.proofs.Heads.{short-row, a-chain, chain-head}
-use Rattle.instruction_walk.proofs.Ways.{walks}
+use Rattle.instruction_walk.proofs.Alone.{run-takes}
+use Rattle.instruction_deep.proofs.Deciding.{granted, told, word-0}
+use Rattle.instruction_deep.proofs.Items.{bounds, takes-then, lent-runs, all-few}
+use Rattle.instruction_deep.proofs.Passing.{all-words}
+use Rattle.instruction_deep.proofs.Chains.{bit-below, bit-is}
+use Rattle.instruction_deep.proofs.Heads.{short-row, a-chain, chain-head}
+use Rattle.instruction_deep.proofs.Ways.{walks}
 
 -- ---- the bits of a token of bounded numbers
 record Split (t c s e p n f : ℕ) : Type 0 where

@@ -1,2 +1,1 @@
-pub mod Confirm
-pub mod Walks
+pub mod Short

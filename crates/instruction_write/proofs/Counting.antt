@@ -20,8 +20,8 @@ use Rattle.layouts.proofs.Others.{counts}
 use Rattle.tokens.specs.Chains.{ends}
 use Rattle.tokens.specs.declared.Skip.{Skip}
 use Rattle.tokens.specs.declared.Skip.the-variants.{To, Off}
-use Rattle.instruction.proofs.Verdicts.{Headed, headed-at}
-use Rattle.instruction.proofs.Counted.{chain-head}
+use Rattle.instruction_fields.proofs.Heads.{Headed, headed-at}
+use Rattle.instruction_fields.proofs.Counted.{chain-head}
 use Rattle.operand_write.specs.declared.Sums.{Sums}
 use Rattle.instruction_write.specs.Writes.{countedShape, countedItems, operandsOf, rowFor, RowReady, Room, WroteRun, BodyRoom, WroteBody, Ready, Written}
 use Rattle.instruction_write.specs.declared.Sizes.{Sizes}

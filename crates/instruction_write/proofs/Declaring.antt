@@ -25,7 +25,7 @@ use Rattle.layouts.proofs.Others.{by-count, custom, phase, opaque}
 use Rattle.tokens.specs.Chains.{ends}
 use Rattle.tokens.specs.declared.Skip.{Skip}
 use Rattle.tokens.specs.declared.Skip.the-variants.{To}
-use Rattle.instruction.proofs.Verdicts.{Headed, headed-at}
+use Rattle.instruction_fields.proofs.Heads.{Headed, headed-at}
 use Rattle.instruction_write.specs.Writes.{rowFor, RowReady, DeclaredReady, BodyRoom, WroteBody, Ready, Written}
 use Rattle.instruction_write.specs.declared.Sizes.{Sizes}
 use Rattle.instruction_write.proofs.Parted.{operandsIn, operands-are, wordy, words-room, words-wrote}

@@ -24,7 +24,7 @@ use Rattle.tokens.proofs.Places.{dword-at}
 use Rattle.tokens.specs.Chains.{ends}
 use Rattle.tokens.specs.declared.Skip.{Skip}
 use Rattle.tokens.specs.declared.Skip.the-variants.{Off}
-use Rattle.instruction.proofs.Verdicts.{Headed, head-off}
+use Rattle.instruction_fields.proofs.Heads.{Headed, head-off}
 use Rattle.instruction_write.specs.Writes.{rowFor, plainRow, RowReady, Put, BodyRoom, WroteBody, UnreadRoom, Unread, Ready, Stored, Written}
 use Rattle.instruction_write.specs.declared.Sizes.{Sizes}
 use Rattle.instruction_write.proofs.Parted.{three}

@@ -20,7 +20,7 @@ use Rattle.format.proofs.Instructions.{makes-items}
 use Rattle.format.proofs.Rows.{rows-append, words-append, table-append}
 use Rattle.layouts.specs.declared.Shape.{Shape}
 use Rattle.layouts.specs.Shapes.{itemsOf, listed, tailed}
-use Rattle.instruction.specs.Measure.{rest}
+use Rattle.instruction_fields.specs.Fields.{rest}
 use Rattle.operand_write.specs.Writes.{Over}
 use Rattle.operand_write.specs.declared.Sums.{Sums}
 use Rattle.operand_write.proofs.Lists.{lent-length, back, over-more, over-front, over-length}

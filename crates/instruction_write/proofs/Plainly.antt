@@ -12,8 +12,8 @@ use Rattle.format.specs.Counts.{operandCount, ofType, typeBits}
 use Rattle.format.specs.Declarations.{layout}
 use Rattle.format.specs.Instructions.{fieldsOf, extensions}
 use Rattle.layouts.specs.Shapes.{meant}
-use Rattle.instruction.specs.Measure.{plainToken}
-use Rattle.instruction.proofs.Counted.{laid, short, unfollowed, field-none, test-is}
+use Rattle.instruction_fields.specs.Fields.{plainToken}
+use Rattle.instruction_fields.proofs.Counted.{laid, short, unfollowed, field-none, test-is}
 use Rattle.instruction_write.specs.Writes.{countedShape, rowFor}
 
 -- the row, from the token's bits

@@ -9,9 +9,10 @@ use Rattle.format.specs.Dwords.{bytesOf}
 use Rattle.format.specs.Operands.{extensionWith}
 use Rattle.format.specs.Encoder.{at, operandDword}
 use Rattle.format.proofs.Dwords.{impossible}
-use Rattle.operand_walk.proofs.Fields.{row-at}
-use Rattle.operand_emit.specs.Emits.{put, rowFrom, headOf, Headed, wordsLeft, Lone, Stood, flatOf, Few}
-use Rattle.operand_emit.proofs.Puts.{dwords-length, dwords-more, copied-one, copied-two, copied-four}
+use Rattle.operand_deep.proofs.Fields.{row-at}
+use Rattle.output.specs.Puts.{put, Headed}
+use Rattle.operand_emit.specs.Emits.{rowFrom, headOf, wordsLeft, Lone, Stood, flatOf, Few}
+use Rattle.output.proofs.Puts.{dwords-length, dwords-more, copied-one, copied-two, copied-four}
 use Rattle.operand_emit.proofs.Heads.{head-one, two-dwords, headed-one, headed-two, flat-plain, flat-extended}
 
 moved : (a b : ℕ) → a ≡ b → (x : ℕ) (out : List ℕ) → put (4 * a) (bytesOf (x ∷ [])) out ≡ put (4 * b) (bytesOf (x ∷ [])) out

@@ -13,8 +13,8 @@ use Rattle.format.specs.Dwords.{bitsFrom}
 use Rattle.format.specs.Operands.{Tree, node, dimension, reprs, repr, own, nests, known}
 use Rattle.format.specs.Rows.{treeWords, treeRows}
 use Rattle.format.proofs.Dwords.{impossible, both}
-use Rattle.operand_walk.specs.Confirm.{Confirmer, confirmIndex}
-use Rattle.operand_walk.proofs.Every.{Every, unmet, met, every-if, every-of}
+use Rattle.operand_deep.specs.Confirm.{Confirmer, confirmIndex}
+use Rattle.operand_deep.proofs.Every.{Every, unmet, met, every-if, every-of}
 
 pub record Flat (d : ℕ) (x : Tree) : Type 0 where
   pub one-row : treeRows x ≡ 1

@@ -11,9 +11,10 @@ use Rattle.format.specs.Operands as op
 use Rattle.format.specs.Encoder.{at, extensionOf, operandDword}
 use Rattle.format.proofs.Dwords.{impossible}
 use Rattle.format.proofs.Made.{extension-of}
-use Rattle.operand_walk.proofs.Fields.{row-at}
-use Rattle.operand_emit.specs.Emits.{put, headOf, Headed, Fits, flatOf, Way}
-use Rattle.operand_emit.proofs.Puts.{positive, dwords-more}
+use Rattle.operand_deep.proofs.Fields.{row-at}
+use Rattle.output.specs.Puts.{put, Headed}
+use Rattle.operand_emit.specs.Emits.{headOf, Fits, flatOf, Way}
+use Rattle.output.proofs.Puts.{positive, dwords-more}
 
 pub low-below : (f : ℕ) → f < 3 → f ≡ getD (0 ∷ 1 ∷ 2 ∷ 6 ∷ 10 ∷ []) f 0
 low-below zero h = refl

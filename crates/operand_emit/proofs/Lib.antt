@@ -1,4 +1,3 @@
-pub mod Puts
 pub mod Heads
 pub mod Flats
 pub mod Opened

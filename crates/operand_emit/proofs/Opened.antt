@@ -15,10 +15,10 @@ use Rattle.format.specs.Operands.{Tree, none, plain, node, immediate, immediate
 use Rattle.format.specs.Rows.{treeWords, treeRows, operandRow}
 use Rattle.format.specs.Encoder.{at, extensionOf, operandDword, same}
 use Rattle.format.proofs.Dwords.{impossible, both}
-use Rattle.operand_walk.specs.Confirm.{Confirmer, behind, confirmIndex, confirmed, confirmImmediates, confirmIndices, confirmFront, confirm}
-use Rattle.operand_walk.proofs.Every.{Every, unmet, met, every-then, every-if, every-of}
+use Rattle.operand_deep.specs.Confirm.{Confirmer, behind, confirmIndex, confirmed, confirmImmediates, confirmIndices, confirmFront, confirm}
+use Rattle.operand_deep.proofs.Every.{Every, unmet, met, every-then, every-if, every-of}
 use Rattle.format.proofs.Encoder.{same-eq}
-use Rattle.operand_walk.proofs.Fields.{exact-below}
+use Rattle.operand_deep.proofs.Fields.{exact-below}
 use Rattle.operand_emit.specs.Emits.{headOf, Fits}
 use Rattle.operand_emit.proofs.Flats.{Flat, wordy, flat-three}
 

@@ -16,13 +16,14 @@ use Rattle.format.specs.Rows.{treeWords, treeRows}
 use Rattle.format.specs.Encoder.{at, operandDword}
 use Rattle.format.proofs.Dwords.{both}
 use Rattle.format.proofs.Rows.{four-lengths}
-use Rattle.operand_walk.specs.Confirm.{Confirmer, confirmIndex, confirm}
-use Rattle.operand_walk.proofs.Every.{Every, unmet, met, every-then, every-if, every-of}
-use Rattle.operand_walk.proofs.Fields.{row-at}
-use Rattle.operand_walk.proofs.Sound.{sound}
-use Rattle.operand_emit.specs.Emits.{put, rowFrom, standing, Ready, Emitted, headOf, Headed, Fits, wordsLeft, Lone, Stood, Few}
+use Rattle.operand_deep.specs.Confirm.{Confirmer, confirmIndex, confirm}
+use Rattle.operand_deep.proofs.Every.{Every, unmet, met, every-then, every-if, every-of}
+use Rattle.operand_deep.proofs.Fields.{row-at}
+use Rattle.operand_deep.proofs.Sound.{sound}
+use Rattle.output.specs.Puts.{put, Headed}
+use Rattle.operand_emit.specs.Emits.{rowFrom, standing, Ready, Emitted, headOf, Fits, wordsLeft, Lone, Stood, Few}
 use Rattle.operand_emit.specs.declared.Ends.{Ends}
-use Rattle.operand_emit.proofs.Puts.{dwords-more}
+use Rattle.output.proofs.Puts.{dwords-more}
 use Rattle.operand_emit.proofs.Heads.{no-extension}
 use Rattle.operand_emit.proofs.Opened.{every-self, Indices, Opened, opens, some-left}
 

@@ -8,12 +8,9 @@ use Rattle.format.specs.Dwords.{bytesOf}
 use Rattle.format.specs.Operands.{Tree, none, dwords}
 use Rattle.format.specs.Rows.{treeRows, treeWords}
 use Rattle.format.specs.Encoder.{at, extensionOf, operandDword}
-use Rattle.operand_walk.specs.Confirm.{Confirmer}
+use Rattle.output.specs.Puts.{put}
+use Rattle.operand_deep.specs.Confirm.{Confirmer}
 use Rattle.operand_emit.specs.declared.Ends.{Ends}
-
--- bytes in a list from a place on, over what was there
-unfoldable pub put : ℕ → List ℕ → List ℕ → List ℕ
-put p b out = take p out ++ b ++ drop (p + length b) out
 
 -- the row from a place on
 abbrev pub rowFrom : ℕ → List ℕ → List ℕ
@@ -44,11 +41,6 @@ pub record Emitted (o : Option Tree) (first word place : ℕ) (out : List ℕ) (
 -- an operand's dword and its extension, from its row
 abbrev pub headOf : List ℕ → List ℕ
 headOf q = operandDword q ∷ extensionOf (at 3 q)
-
--- dwords stand there, and the next place is behind them
-pub record Headed (l : List ℕ) (place : ℕ) (out : List ℕ) (next : ℕ) (out′ : List ℕ) : Type 0 where
-  pub next-is : next ≡ place + length l
-  pub output-is : out′ ≡ put (4 * place) (bytesOf l) out
 
 -- the numbers of a row whose dword was exact
 pub record Fits (q : List ℕ) : Type 0 where

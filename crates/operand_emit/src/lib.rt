@@ -3,58 +3,20 @@ ghost use mathlib.Core.Path.{_≡_};
 ghost use mathlib.Core.List.{[], _∷_};
 ghost use Prim.Native.Nat.{ℕ, _+_, _-_, _*_, _/_, _%_, _^_, _<_, _≤_};
 ghost use lib.ListN.{length, getD, take, drop};
-ghost use Rattle.format.specs.Dwords.{bytesOf};
 ghost use Rattle.format.specs.Operands as op;
 ghost use Rattle.format.specs.Encoder as e;
-ghost use Rattle.operand_walk.specs.Confirm as c;
+ghost use Rattle.output.specs.Puts.{Headed};
+ghost use Rattle.operand_deep.specs.Confirm as c;
 ghost use Rattle.operand_emit.specs.Emits as w;
-use operand_walk::pair;
+use operand_deep::pair;
+use output::copy;
+use output::put_dword;
 
 // The place where the row behind what was written begins, the word and the dword of the output behind it.
 pub struct Ends {
     pub first: usize,
     pub word: usize,
     pub at: usize,
-}
-
-// Stores a dword's four bytes, the lowest first.
-pub fn put_dword(output: &mut [u8], at: usize, x: u32)
-    requires { ⌜ 4 * (at + 1) ≤ length (now output) ⌝ }
-    ensures { λ _. ⌜ now (output .exit) ≡ w.put (4 * at) (bytesOf (x ∷ [])) (now (output .entry)) ⌝ }
-{
-    let i = 4 * at;
-    output[i] = (x % 0x100) as u8;
-    output[i + 1] = (x / 0x100 % 0x100) as u8;
-    output[i + 2] = (x / 0x1_0000 % 0x100) as u8;
-    output[i + 3] = (x / 0x100_0000 % 0x100) as u8;
-}
-
-// Copies n words from a word on, one after the other.
-fn copy_each(words: &[u32], word: usize, n: usize, output: &mut [u8], at: usize)
-    requires { ⌜ (n ≤ length (now words) - word) × (4 * (at + n) ≤ length (now output)) ⌝ }
-    ensures { λ _. ⌜ now (output .exit) ≡ w.put (4 * at) (bytesOf (take n (drop word (now (words .entry))))) (now (output .entry)) ⌝ }
-{
-    let mut i = 0;
-    while i < n {
-        put_dword(output, at + i, words[word + i]);
-        i += 1;
-    }
-}
-
-// Copies n words from a word on, the first two without a loop: few operands have more.
-pub fn copy(words: &[u32], word: usize, n: usize, output: &mut [u8], at: usize)
-    requires { ⌜ (n ≤ length (now words) - word) × (4 * (at + n) ≤ length (now output)) ⌝ }
-    ensures { λ _. ⌜ now (output .exit) ≡ w.put (4 * at) (bytesOf (take n (drop word (now (words .entry))))) (now (output .entry)) ⌝ }
-{
-    if n == 0 {
-        return;
-    }
-    put_dword(output, at, words[word]);
-    if n == 1 {
-        return;
-    }
-    put_dword(output, at + 1, words[word + 1]);
-    copy_each(words, word + 2, n - 2, output, at + 2);
 }
 
 // Gives bits 0-3 of an operand's dword, by its form.
@@ -100,7 +62,7 @@ fn dword(operands: &[u32], o: usize) -> u32
 // Stores an operand's dword and the extension of its modifiers; gives the dword of the output behind them.
 fn head(operands: &[u32], o: usize, output: &mut [u8], at: usize) -> usize
     requires { ⌜ (o + 16 ≤ length (now operands)) × w.Fits (w.rowFrom o (now operands)) × (4 * (at + length (w.headOf (w.rowFrom o (now operands)))) ≤ length (now output)) ⌝ }
-    ensures { λ r. ⌜ w.Headed (w.headOf (w.rowFrom o (now (operands .entry)))) at (now (output .entry)) r (now (output .exit)) ⌝ }
+    ensures { λ r. ⌜ Headed (w.headOf (w.rowFrom o (now (operands .entry)))) at (now (output .entry)) r (now (output .exit)) ⌝ }
 {
     let m = operands[o + 3];
     put_dword(output, at, dword(operands, o));

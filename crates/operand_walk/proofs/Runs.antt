@@ -7,11 +7,13 @@ use lib.ListN.{length, getD, take, drop, length-drop}
 use lib.Seq.{getD-drop}
 use Rattle.format.specs.Encoder.{at, extensionOf}
 use Rattle.format.proofs.Dwords.{impossible}
-use Rattle.operand_walk.specs.Confirm.{confirm}
-use Rattle.operand_walk.specs.Walks.{walked, there, Lone, Bare, Run, empty, next, Ran, Nested, Pointed}
-use Rattle.operand_walk.specs.declared.Walked.the-variants.{Is}
-use Rattle.operand_walk.proofs.SameRows.{rest}
-use Rattle.operand_walk.proofs.Alone.{told, nested-walks}
+use Rattle.operand_deep.specs.Confirm.{confirm}
+use Rattle.operand_deep.specs.Walks.{walked, there}
+use Rattle.operand_walk.specs.Walks.{Lone, Bare, Run, empty, next, Ran, Nested, Pointed}
+use Rattle.operand_deep.specs.declared.Walked.the-variants.{Is}
+use Rattle.operand_deep.proofs.SameRows.{rest}
+use Rattle.operand_deep.proofs.Told.{told}
+use Rattle.operand_walk.proofs.Alone.{nested-walks}
 
 -- the row in front, as the code takes it from a pool
 abbrev rowsFrom : ℕ → List ℕ → List ℕ
@@ -26,7 +28,7 @@ pub record Running (rs : List ℕ) (r w k i v m : ℕ) : Type 0 where
   pub few : m ≤ 1 + i
   pub runs : v < 2 ^ 32 → (left : ℕ) (ws : List ℕ) → v ≤ length ws → Run (suc left) rs ws r w i v (i + (v - w) + (m - 1))
 
-pub begin : (rs : List ℕ) (r w k : ℕ) → Running rs r w k 0 w 1
+begin : (rs : List ℕ) (r w k : ℕ) → Running rs r w k 0 w 1
 begin rs r w k =
     let z : 0 ≡ 0 + (w - w) + (1 - 1) = omega arith in
     record {
@@ -61,15 +63,15 @@ module _ {rs : List ℕ} {r w k i v m : ℕ} (g : Running rs r w k i v m) where
               subst (Run (suc left) rs ws r w (i + 1) (v + n)) (ap (λ (j : ℕ). i + (v - w) + (m - 1) + j) d ∙ more i v w m n y (g .words-from) (g .counted)) t;
         }
 
-    pub bare-goes-on : {n : ℕ} → n ≤ 4 → 0 < n → (v < 2 ^ 32 → Bare (rowsFrom (16 * (r + i)) rs) v n) → Running rs r w k (i + 1) (v + n) m
+    bare-goes-on : {n : ℕ} → n ≤ 4 → 0 < n → (v < 2 ^ 32 → Bare (rowsFrom (16 * (r + i)) rs) v n) → Running rs r w k (i + 1) (v + n) m
     bare-goes-on {n} few p b =
         let z : m + 0 ≡ m = omega arith in
         subst (Running rs r w k (i + 1) (v + n)) z (goes-on few (omega arith) p (λ l. b l .lone) (λ l. omega (arith, b l .dwords-are)))
 
-    pub lone-goes-on : {n y : ℕ} → Lone (rowsFrom (16 * (r + i)) rs) v n → (n ≡ 0 → ⊥) → y ≡ length (extensionOf (at 3 (rowsFrom (16 * (r + i)) rs))) → y < 2 → Running rs r w k (i + 1) (v + n) (m + y)
+    lone-goes-on : {n y : ℕ} → Lone (rowsFrom (16 * (r + i)) rs) v n → (n ≡ 0 → ⊥) → y ≡ length (extensionOf (at 3 (rowsFrom (16 * (r + i)) rs))) → y < 2 → Running rs r w k (i + 1) (v + n) (m + y)
     lone-goes-on {n} {y} l p e f = let p₁ : 0 < n = omega (arith, p) in goes-on (l .few) (omega arith) p₁ (λ j. l) (λ j. l .size p₁ ∙ ap (λ (j : ℕ). 1 + n + j) (sym e))
 
-  pub finished : k ≤ i → (end : ℕ) → end < 2 ^ 32 → v ≤ end → 0 < m → Ran rs r w k end (m - 1)
+  finished : k ≤ i → (end : ℕ) → end < 2 ^ 32 → v ≤ end → 0 < m → Ran rs r w k end (m - 1)
   finished h end l b p =
       let z : i ≡ k = omega (arith, g .some) in
       record {
@@ -81,6 +83,42 @@ module _ {rs : List ℕ} {r w k i v m : ℕ} (g : Running rs r w k i v m) where
             let b₁ : v ≤ length ws = omega arith in
             subst (λ (j : ℕ). Run (suc left) rs ws r w j v (j + (v - w) + (m - 1))) z (g .runs (omega arith) left ws b₁);
       }
+
+-- ---- the same, at the place i of the next row, or at `stop`, which is behind the last
+pub record Going (rs : List ℕ) (r w k stop i v m : ℕ) : Type 0 where
+  pub done : ℕ
+  pub still : i + 16 * (k - done) ≡ stop
+  pub row-is : i < stop → i ≡ 16 * (r + done)
+  pub running : Running rs r w k done v m
+
+pub set-out : (rs : List ℕ) (r w k i : ℕ) → (0 < k → i ≡ 16 * r) → Going rs r w k (i + 16 * k) i w 1
+set-out rs r w k i e = record { done = 0; still = omega arith; row-is = λ h. let p : 0 < k = omega arith in omega (arith, e p); running = begin rs r w k }
+
+module _ {rs : List ℕ} {r w k stop i v m : ℕ} (g : Going rs r w k stop i v m) where
+  -- the words so far are few
+  pub near : k ≤ 16 → (v ≤ w + 64) × (m ≤ 17)
+  near h = (omega (arith, g .running .words-to, g .running .some), omega (arith, g .running .few, g .running .some))
+
+  module _ (h : i < stop) where
+    not-all : g .done < k
+    not-all = omega (arith, g .still)
+
+    pub row-fits : k ≤ length rs / 16 - r → i + 16 ≤ length rs
+    row-fits l = omega (arith, g .row-is h, not-all)
+
+    onward : {v₁ m₁ : ℕ} → Running rs r w k (g .done + 1) v₁ m₁ → Going rs r w k stop (i + 16) v₁ m₁
+    onward a = record { done = g .done + 1; still = omega (arith, g .still, not-all); row-is = λ l. omega (arith, g .row-is h); running = a }
+
+    pub bare-onward : {n : ℕ} → n ≤ 4 → 0 < n → (v < 2 ^ 32 → Bare (rowsFrom i rs) v n) → Going rs r w k stop (i + 16) (v + n) m
+    bare-onward {n} few p b = onward (bare-goes-on (g .running) not-all few p (λ l. subst (λ (j : ℕ). Bare (rowsFrom j rs) v n) (g .row-is h) (b l)))
+
+    pub lone-onward : {n y : ℕ} → Lone (rowsFrom i rs) v n → (n ≡ 0 → ⊥) → y ≡ length (extensionOf (at 3 (rowsFrom i rs))) → y < 2 → Going rs r w k stop (i + 16) (v + n) (m + y)
+    lone-onward {n} l p e f =
+        let z = g .row-is h in
+        onward (lone-goes-on (g .running) not-all (subst (λ (j : ℕ). Lone (rowsFrom j rs) v n) z l) p (e ∙ ap (λ (j : ℕ). length (extensionOf (at 3 (rowsFrom j rs)))) z) f)
+
+  pub arrived : stop ≤ i → (end : ℕ) → end < 2 ^ 32 → v ≤ end → 0 < m → Ran rs r w k end (m - 1)
+  arrived h = finished (g .running) (omega (arith, g .still))
 
 -- nothing is said
 pub unsaid : {A : Type 0} → 0 < 0 → A

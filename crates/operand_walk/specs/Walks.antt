@@ -1,63 +1,18 @@
--- What walking over rows and words answers.
+-- The rows that go a short way, and what is told of them.
 use Prim.Native.Nat.{ℕ, suc, _+_, _-_, _*_, _/_, _^_, _<_, _≤_}
 use mathlib.Core.Path.{_≡_}
-use mathlib.Core.Bool.{cond, _&&_}
 use mathlib.Core.List.{List, [], _∷_}
-use mathlib.Core.Option.{Option, none as nothing, some as just}
-use lib.ListN.{length, getD, take, drop}
-use lib.Dec.{eqb, ltb}
-use Rattle.format.specs.Operands.{Tree, typeOf, form, selection, dimension, reprs, repr, dwords, exactDword, exactExtension}
-use Rattle.format.specs.Rows.{placed, wordPlace, childRow, treeRows, treeWords}
+use lib.ListN.{length, getD, drop}
+use lib.Dec.{ltb}
+use Rattle.format.specs.Rows.{placed}
 use Rattle.format.specs.Encoder.{at, extensionOf}
-use Rattle.operand_walk.specs.Confirm.{Confirmer, confirm}
-use Rattle.operand_walk.specs.declared.Place.{Place}
-use Rattle.operand_walk.specs.declared.Walked.{Walked}
-use Rattle.operand_walk.specs.declared.Walked.the-variants.{Is, Not}
-use Rattle.operand_walk.specs.declared.Step.{Step}
-use Rattle.operand_walk.specs.declared.Step.the-variants.{To, Off}
-use Rattle.operand_walk.specs.declared.Guess.{Guess}
-use Rattle.operand_walk.specs.declared.Guess.the-variants.{Of, No}
-
--- the sizes of the operand
-abbrev pub walked : Option Tree → Walked
-walked nothing = Not
-walked (just x) = Is (treeRows x) (length (treeWords x)) (length (dwords x))
-
--- the row and the word behind an index that stands at r and w, and its dwords
-abbrev pub reached : ℕ → ℕ → Option Tree → Step
-reached r w nothing = Off
-reached r w (just x) = To (r + treeRows x) (w + length (treeWords x)) (length (dwords x))
-
--- what stands at row r and word w of two pools
-abbrev pub there : Confirmer → Confirmer
-there p rs ws r w = p (drop (16 * r) rs) (drop w ws) r w
-
--- row r of a pool
-abbrev pub rowAt : ℕ → List ℕ → List ℕ
-rowAt r rs = take 16 (drop (16 * r) rs)
-
--- an extension; 0, which none is, says that there is none
-unfoldable pub extensions : ℕ → List ℕ
-extensions x = cond (eqb x 0) [] (x ∷ [])
-
--- a dword and extensions that are exact
-unfoldable pub guessed : ℕ → List ℕ → Guess
-guessed t e = cond (exactDword t && exactExtension e) (Of t (getD e 0 0)) No
-
--- the row of an operand's dword t with the modifiers x and m immediates at i; its indices stand at three places; the rows of its tree, and
--- its dwords
-unfoldable pub frontFor : ℕ → ℕ → ℕ → ℕ → List ℕ
-frontFor t x i m = typeOf t ∷ form t ∷ selection t ∷ x ∷ placed (ltb 0 m) i ∷ m ∷ dimension t ∷ reprs t ∷ []
-
-unfoldable pub backFor : ℕ → Place → Place → Place → ℕ → ℕ → List ℕ
-backFor t a b c rows ds =
-    wordPlace (repr 0 t) (a .1) ∷ wordPlace (repr 1 t) (b .1) ∷ wordPlace (repr 2 t) (c .1) ∷
-    childRow (repr 0 t) (a .0) ∷ childRow (repr 1 t) (b .0) ∷ childRow (repr 2 t) (c .0) ∷ rows ∷ ds ∷ []
+use Rattle.operand_deep.specs.Confirm.{confirm}
+use Rattle.operand_deep.specs.Walks.{walked, there}
+use Rattle.operand_deep.specs.declared.Walked.the-variants.{Is}
 
 -- ---- an operand that stands alone, by its row, which is in front
--- its only row, with a type that a dword holds, and no rows for a second and a third index
+-- its only row, with no rows for a second and a third index
 pub record Common (q : List ℕ) : Type 0 where
-  pub type : at 0 q < 2 ^ 8
   pub second : at 12 q ≡ 0
   pub third : at 13 q ≡ 0
   pub rows : at 14 q ≡ 1
@@ -68,8 +23,9 @@ pub record Plain (q : List ℕ) : Type 0 where
   pub selection : at 2 q < getD (1 ∷ 1 ∷ 16 ∷ 256 ∷ 4 ∷ []) (at 1 q) 0
   pub signs : at 3 q < 4
 
--- indices, of which the first has a word at w, and no immediates
+-- a type that a dword holds, indices, of which the first has a word at w, and no immediates
 pub record Starts (q : List ℕ) (w : ℕ) : Type 0 where
+  pub type : at 0 q < 2 ^ 8
   pub kind : at 0 q / 2 ≡ 2 → ⊥
   pub no-place : at 4 q ≡ 0
   pub no-immediates : at 5 q ≡ 0

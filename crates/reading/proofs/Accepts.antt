@@ -15,7 +15,7 @@ use Rattle.format.specs.Refusals.{SHEX, firstOf, headerTests, header, firstPass
 use Rattle.format.specs.Encoder.{chunkOf}
 use Rattle.format.proofs.Dwords.{impossible, length-bytes, dwords-bytes}
 use Rattle.format.proofs.Refusals.{Reads, nil, cons, nth-fails, header-SHEX, Chunk}
-use Rattle.operand_walk.proofs.Lists.{some-of}
+use Rattle.operand_deep.proofs.Lists.{some-of}
 use Rattle.format.proofs.Room.{Fit, also, fit-all}
 
 -- ---- framing and the two passes

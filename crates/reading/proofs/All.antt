@@ -19,11 +19,11 @@ use Rattle.format.proofs.Refusals.{Reads, nil, cons}
 use Rattle.format.proofs.Remade.{row-words}
 use Rattle.format.proofs.Room as room
 use Rattle.format.proofs.Room.{Fit, fit-append, fit-front, fit-drop}
-use Rattle.operand_walk.proofs.Every.{Every, unmet, met, every-then, every-if, every-of}
-use Rattle.instruction_walk.specs.Confirm.{confirmInstruction}
+use Rattle.operand_deep.proofs.Every.{Every, unmet, met, every-then, every-if, every-of}
+use Rattle.instruction_deep.specs.Confirm.{confirmInstruction}
 use Rattle.reading.specs.Confirm.{confirmAll}
-use Rattle.instruction_walk.proofs.Sound.{Confirmed, sound}
-use Rattle.instruction_walk.proofs.Complete.{complete, own-length}
+use Rattle.instruction_deep.proofs.Sound.{Confirmed, sound}
+use Rattle.instruction_deep.proofs.Complete.{complete, own-length}
 
 -- ---- what is confirmed is read
 -- the rows, operand rows and words are those of instructions that read, the first of which stands at a place

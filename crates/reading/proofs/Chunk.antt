@@ -20,7 +20,7 @@ use Rattle.format.proofs.Refusals.{chunk-accepted}
 use Rattle.format.proofs.Encoder.{Given, given, not-past, chunk-given, bytes-of, counts, Found, not-found, found, chunk-found}
 use Rattle.reading.specs.Confirm.{confirmAll, untold, confirmChunk}
 use Rattle.format.proofs.Room as room
-use Rattle.instruction_walk.proofs.Fits.{fit-each}
+use Rattle.instruction_deep.proofs.Fits.{fit-each}
 use Rattle.reading.proofs.Accepts.{header-untold, chunk-reads}
 use Rattle.reading.proofs.All.{fit-take, all-sound, all-complete}
 

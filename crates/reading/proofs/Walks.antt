@@ -1,27 +1,27 @@
 -- A walk over rows and words: each way past an instruction, and the end.
-use Prim.Native.Nat.{ℕ, zero, suc, _+_, _*_, _-_, _/_, _≤_, _<_}
+use Prim.Native.Nat.{ℕ, zero, suc, _+_, _*_, _-_, _/_, _^_, _≤_, _<_}
 use mathlib.Core.Path.{_≡_, refl, sym, ap, _∙_, subst}
 use mathlib.Core.List.{List, [], _∷_}
 use mathlib.Core.Option.{Option, none as nothing, some as just}
 use mathlib.Core.Bool.{Bool, true, false, cond, _&&_}
 use lib.ListN.{length, getD, take, drop, length-append, length-drop}
 use lib.Seq.{drop-drop, take-nil, length-take-le}
-use Rattle.operand_walk.proofs.Fields.{row-at}
+use Rattle.operand_deep.proofs.Fields.{row-at}
 use lib.Dec.{leb, eqb, lit<}
 use native.Mathlib.Omega.{arith}
 use native.Mathlib.Nat.{zero-add, suc-add}
-use borrow.Author.Tests.{leb-true, le-leb, lt-leb, eq-eqb, ne-eqb}
+use borrow.Author.Tests.{leb-true, leb-false, le-leb, lt-leb, eq-eqb, ne-eqb}
 use Rattle.format.specs.Instructions.{Instruction, unread, pieces, dwords, allDwords}
 use Rattle.format.specs.Rows.{partsRows, partsTable, parts, unreadRow, instructionRow}
 use Rattle.format.proofs.Rows.{parts-length}
-use Rattle.instruction_walk.proofs.Sound.{Confirmed, sound}
+use Rattle.instruction_deep.proofs.Sound.{Confirmed, sound}
 use Rattle.format.specs.Encoder.{at}
 use Rattle.format.proofs.Dwords.{impossible}
-use Rattle.operand_walk.specs.Confirm.{_>>=_}
-use Rattle.instruction_walk.specs.Confirm.{confirmInstruction}
-use Rattle.instruction_walk.specs.Walks.{walkedInstruction}
-use Rattle.instruction_walk.specs.declared.Walked.{Walked}
-use Rattle.instruction_walk.specs.declared.Walked.the-variants.{Is, Not}
+use Rattle.operand_deep.specs.Confirm.{_>>=_}
+use Rattle.instruction_deep.specs.Confirm.{confirmInstruction}
+use Rattle.instruction_deep.specs.Walks.{walkedInstruction}
+use Rattle.instruction_deep.specs.declared.Walked.{Walked}
+use Rattle.instruction_deep.specs.declared.Walked.the-variants.{Is, Not}
 use Rattle.reading.specs.Confirm.{confirmAll}
 use Rattle.reading.specs.Walks.{dwordsFrom, spot, onward, answer, Walking, Steps, on, off}
 use Rattle.reading.specs.declared.Read.{Read}
@@ -45,7 +45,12 @@ is-none : (x : Option Instruction) {v : Walked} → v ≡ walkedInstruction x �
 is-none nothing p q = refl
 is-none (just i) p q = impossible (cc)
 
--- word 1 of a row
+-- words 0 and 1 of a row
+row-place : (place r w : ℕ) (i : Instruction) → at 0 (instructionRow place r w i) ≡ place
+unfolding instructionRow unreadRow
+row-place place r w (unread ds) = refl
+row-place place r w (pieces t e ps) = refl
+
 row-size : (place r w : ℕ) (i : Instruction) → at 1 (instructionRow place r w i) ≡ length (dwords i)
 unfolding instructionRow unreadRow dwords
 row-size place r w (unread ds) = refl
@@ -56,6 +61,14 @@ more : (a n : ℕ) (i : Instruction) → n ≡ length (dwords i) → (x : Option
 unfolding allDwords
 more a n i e nothing = refl
 more a n i e (just l) = ap (λ (k : ℕ). Of k) (omega (arith, e, length-append (dwords i) (allDwords l)))
+
+-- no answer where nothing is confirmed, at whatever place
+no-answer : (at : ℕ) {x : Option (List Instruction)} → x ≡ nothing → cond (leb at 262_144) (dwordsFrom at x) No ≡ No
+no-answer at k = ap (λ x. cond (leb at 262_144) (dwordsFrom at x) No) k ∙ alike (leb at 262_144)
+  where
+    alike : (b : Bool) → cond b No No ≡ No
+    alike true = refl
+    alike false = refl
 
 -- the words of an instruction, cut off behind it
 pub cut-words : (w n : ℕ) (ws : List ℕ) → drop w (take (w + n) ws) ≡ take n (drop w ws)
@@ -121,7 +134,7 @@ module _ {c : ℕ} {m : Bool} {is rs ws : List ℕ} {s : Walk} {whole : Read} (y
   next-one = mine c m is rs ws s h own-words
 
   none-on : onward c m is rs ws s ≡ nothing → Steps c m is rs ws (s .instruction) whole Off
-  none-on k = off (sym (ap (dwordsFrom (s .at)) k) ∙ y .same)
+  none-on k = off (sym (no-answer (s .at) k) ∙ y .same)
 
   pub words-off : length ws < s .word + n → Steps c m is rs ws (s .instruction) whole Off
   words-off z =
@@ -158,25 +171,34 @@ module _ {c : ℕ} {m : Bool} {is rs ws : List ℕ} {s : Walk} {whole : Read} (y
           let t : List ℕ = partsTable (s .row) (s .word) (parts i) in
           omega (arith, ap length (it-sound .rows), length-append t (drop (16 * partsRows (parts i)) (drop (16 * s .row) rs)), parts-length (s .row) (s .word) (parts i), length-drop (16 * s .row) rs, it .rows, y .row-within)
 
-      -- its dwords are what its row tells
-      pub size-told : d ≡ getD is (a + 1) 0
+      -- its place and its dwords are what its row tells, which no number of 32 bits passes
+      place-told : p ≡ getD is a 0
+      place-told =
+          let q : p ≡ 4 * s .at = omega (arith, ep) in
+          let z : 16 * s .instruction + 0 ≡ a = omega (arith, ea) in
+          q ∙ sym (row-place (4 * s .at) (s .row) (s .word) (it .one)) ∙ sym (ap (at 0) (it-sound .row)) ∙ row-at is (16 * s .instruction) 0 (lit< tt) ∙ ap (λ (j : ℕ). getD is j 0) z
+
+      size-told : d ≡ getD is (a + 1) 0
       size-told =
           let z : 16 * s .instruction + 1 ≡ a + 1 = omega (arith, ea) in
           it .dwords-are ∙ sym (row-size (4 * s .at) (s .row) (s .word) (it .one)) ∙ sym (ap (at 1) (it-sound .row)) ∙ row-at is (16 * s .instruction) 1 (lit< tt) ∙ ap (λ (j : ℕ). getD is j 0) z
 
-      pub long-off : 262_144 < s .at + d → Steps c m is rs ws (s .instruction) whole Off
-      long-off l =
-          let e : onward c m is rs ws s ≡ nothing = onto c m is rs ws s h own-words enough it ∙ rw (lt-leb (4 * s .at + 4 * length (dwords (it .one))) 1_048_576 (omega (arith, it .dwords-are))) in
-          none-on e
+      pub near : ((j : ℕ) → getD is j 0 < 2 ^ 32) → p + d * 4 < 2 ^ 35
+      near f = omega (arith, place-told, size-told, f a, f (a + 1))
 
-      pub walked-past : s .at + d ≤ 262_144 → Walking c m is rs ws (past s r d n) whole
-      walked-past l =
-          record {
-            at-most = l;
-            row-within = rows-fit;
-            word-within = z;
-            same = more (s .at) d (it .one) (it .dwords-are) (onward c m is rs ws (past s r d n)) ∙ ap (dwordsFrom (s .at)) (sym (from c m is rs ws s h own-words enough it (omega (arith, it .dwords-are)))) ∙ y .same;
-          }
+      -- nothing is confirmed where it goes on past the first 1,048,576 bytes
+      too-long : 262_144 < s .at + d → onward c m is rs ws s ≡ nothing
+      too-long l = onto c m is rs ws s h own-words enough it ∙ rw (lt-leb (4 * s .at + 4 * length (dwords (it .one))) 1_048_576 (omega (arith, it .dwords-are)))
+
+      -- the answer stays the same past it: inside, as many dwords are told; beyond, none is right, neither from here nor from there
+      same-past : (b : Bool) → leb (s .at + d) 262_144 ≡ b → answer c m is rs ws (past s r d n) ≡ answer c m is rs ws s
+      same-past true e =
+          let l : s .at + d ≤ 262_144 = leb-true (s .at + d) 262_144 e in
+          rw (e, le-leb (s .at) 262_144 (omega arith)) (more (s .at) d (it .one) (it .dwords-are) (onward c m is rs ws (past s r d n)) ∙ ap (dwordsFrom (s .at)) (sym (from c m is rs ws s h own-words enough it (omega (arith, it .dwords-are)))))
+      same-past false e = rw e (sym (no-answer (s .at) (too-long (leb-false (s .at + d) 262_144 e))))
+
+      pub walked-past : ((j : ℕ) → getD is j 0 < 2 ^ 32) → Walking c m is rs ws (past s r d n) whole
+      walked-past f = record { at-most = omega (arith, ep, near f); row-within = rows-fit; word-within = z; same = same-past (leb (s .at + d) 262_144) refl ∙ y .same }
 
 -- ---- a walk as it is counted while it goes ahead
 spot-of : (s : Walk) → spot (s .at * 4) (s .instruction * 16) (s .row) (s .word) ≡ s
@@ -209,11 +231,11 @@ module _ {c : ℕ} {m : Bool} {is rs ws : List ℕ} where
     pub ahead-rows : 16 * (row + r) ≤ length rs
     ahead-rows = rows-fit (y .walking) h (y .first-is) (y .place-is) e z x refl
 
-    pub ahead-size : d ≡ getD is (i + 1) 0
-    ahead-size = size-told (y .walking) h (y .first-is) (y .place-is) e z x refl
+    pub ahead-near : ((j : ℕ) → getD is j 0 < 2 ^ 32) → place + d * 4 < 2 ^ 35
+    ahead-near = near (y .walking) h (y .first-is) (y .place-is) e z x refl
 
-    pub ahead-on : {o : ℕ} → o ≡ r → place + d * 4 ≤ 1_048_576 → Ahead c m is rs ws k whole (place + d * 4) (i + 16) (row + o) (word + n)
-    ahead-on {o} f l =
+    pub ahead-on : {o : ℕ} → o ≡ r → ((j : ℕ) → getD is j 0 < 2 ^ 32) → Ahead c m is rs ws k whole (place + d * 4) (i + 16) (row + o) (word + n)
+    ahead-on {o} f b =
         let p : place / 4 + d ≡ (place + d * 4) / 4 = omega arith in
         let q : i / 16 + 1 ≡ (i + 16) / 16 = omega arith in
         let t : past (spot place i row word) r d n ≡ spot (place + d * 4) (i + 16) (row + o) (word + n) = λ j. record { at = p j; instruction = q j; row = row + sym f j; word = word + n } in
@@ -221,7 +243,7 @@ module _ {c : ℕ} {m : Bool} {is rs ws : List ℕ} where
           place-is = omega (arith, y .place-is);
           first-is = omega (arith, y .first-is);
           later = omega (arith, y .later);
-          walking = subst (λ (t : Walk). Walking c m is rs ws t whole) t (walked-past (y .walking) h (y .first-is) (y .place-is) e z x refl (omega (arith, y .place-is)));
+          walking = subst (λ (t : Walk). Walking c m is rs ws t whole) t (walked-past (y .walking) h (y .first-is) (y .place-is) e z x refl b);
         }
 
 -- where instructions are confirmed from a walk on: the next of them, and a walk past it
@@ -293,7 +315,7 @@ module _ {c : ℕ} {m : Bool} {is rs ws : List ℕ} {s : Walk} {whole : Read} (y
   pub rows-left : 16 * s .row < length rs → No ≡ whole
   rows-left z =
       let k : onward c m is rs ws s ≡ nothing = ended c m is rs ws s h ∙ rw (ne-eqb (length (drop (16 * s .row) rs)) 0 (λ e. omega (arith, length-drop (16 * s .row) rs))) in
-      sym (ap (dwordsFrom (s .at)) k) ∙ y .same
+      sym (no-answer (s .at) k) ∙ y .same
 
   module _ (r : length rs ≤ 16 * s .row) where
     no-rows : eqb (length (drop (16 * s .row) rs)) 0 ≡ true
@@ -302,17 +324,21 @@ module _ {c : ℕ} {m : Bool} {is rs ws : List ℕ} {s : Walk} {whole : Read} (y
     pub words-left : s .word < length ws → No ≡ whole
     words-left z =
         let k : onward c m is rs ws s ≡ nothing = ended c m is rs ws s h ∙ rw (no-rows, ne-eqb (length (drop (s .word) ws)) 0 (λ e. omega (arith, length-drop (s .word) ws))) in
-        sym (ap (dwordsFrom (s .at)) k) ∙ y .same
+        sym (no-answer (s .at) k) ∙ y .same
 
-    pub all-told : length ws ≤ s .word → Of (s .at) ≡ whole
+    pub all-told : s .at ≤ 262_144 → length ws ≤ s .word → Of (s .at) ≡ whole
     unfolding allDwords
-    all-told z =
+    all-told l z =
         let k : onward c m is rs ws s ≡ just [] = ended c m is rs ws s h ∙ rw (no-rows, eq-eqb (length (drop (s .word) ws)) 0 (omega (arith, length-drop (s .word) ws))) in
         let n : s .at ≡ s .at + 0 = omega arith in
-        ap (λ (j : ℕ). Of j) n ∙ sym (ap (dwordsFrom (s .at)) k) ∙ y .same
+        let e : answer c m is rs ws s ≡ dwordsFrom (s .at) (onward c m is rs ws s) = rw (le-leb (s .at) 262_144 l) in
+        ap (λ (j : ℕ). Of j) n ∙ sym (ap (dwordsFrom (s .at)) k) ∙ sym e ∙ y .same
 
 -- what is told of the answer from a walk on is told of the whole's
 module _ {c : ℕ} {m : Bool} {is rs ws : List ℕ} {s : Walk} {whole : Read} (y : Walking c m is rs ws s whole) where
+  pub limit-past : 262_144 < s .at → No ≡ whole
+  limit-past z = sym (rw (lt-leb (s .at) 262_144 z)) ∙ y .same
+
   pub from-here : Walking c m is rs ws s (answer c m is rs ws s)
   from-here = record { at-most = y .at-most; row-within = y .row-within; word-within = y .word-within; same = refl }
 

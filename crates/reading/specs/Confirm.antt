@@ -6,8 +6,8 @@ use Rattle.format.specs.Instructions.{Instruction, dwords}
 use Rattle.format.specs.Rows.{partsRows, parts}
 use Rattle.format.specs.Refusals.{headerTests, firstOf, isModel51, SHEX, Rows}
 use Rattle.format.specs.Encoder.{at, pastPool, held}
-use Rattle.operand_walk.specs.Confirm.{_>>=_}
-use Rattle.instruction_walk.specs.Confirm.{confirmInstruction}
+use Rattle.operand_deep.specs.Confirm.{_>>=_}
+use Rattle.instruction_deep.specs.Confirm.{confirmInstruction}
 
 module _ (ceiling : ℕ) (model51 : Bool) where
   -- n instructions, the first of which stands at a place, from their rows, operand rows and words, all of them; the last ends in the first

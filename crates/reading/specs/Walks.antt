@@ -1,5 +1,5 @@
 -- What walking over the rows of a chunk answers.
-use Rattle.format.specs.Basis.{ℕ, _+_, _-_, _*_, _/_, _≤_, _≡_, List, Option, none as nothing, some as just, Bool, length, drop}
+use Rattle.format.specs.Basis.{ℕ, _+_, _-_, _*_, _/_, _^_, _<_, _≤_, _≡_, List, Option, none as nothing, some as just, Bool, cond, length, drop, leb}
 use Rattle.format.specs.Instructions.{Instruction, allDwords}
 use Rattle.format.specs.Refusals.{Rows}
 use Rattle.reading.specs.Confirm.{confirmAll}
@@ -32,13 +32,13 @@ module _ (ceiling : ℕ) (model51 : Bool) (is rs ws : List ℕ) where
   abbrev pub onward : Walk → Option (List Instruction)
   onward s = confirmAll ceiling model51 (length is / 16 - s .instruction) (4 * s .at) (drop (16 * s .instruction) is) (drop (16 * s .row) rs) (drop (s .word) ws) (s .row) (s .word)
 
-  -- what the answer is, from a walk so far on
+  -- what the answer is, from a walk so far on: none, if it is past the first 1,048,576 bytes, since no chunk is so long
   abbrev pub answer : Walk → Read
-  answer s = dwordsFrom (s .at) (onward s)
+  answer s = cond (leb (s .at) 262_144) (dwordsFrom (s .at) (onward s)) No
 
-  -- a walk so far: the answer from here is the whole's
+  -- a walk so far: the answer from here is the whole's. It is not far on, since the last row told its place and its size in 32 bits each
   pub record Walking (s : Walk) (whole : Read) : Type 0 where
-    pub at-most : s .at ≤ 262_144
+    pub at-most : s .at < 2 ^ 33
     pub row-within : 16 * s .row ≤ length rs
     pub word-within : s .word ≤ length ws
     pub same : answer s ≡ whole

@@ -11,7 +11,7 @@ use header::Checked;
 use header::ceiling;
 use header::decode_version;
 use header::is_model51;
-use instruction_walk::Walked;
+use instruction_deep::Walked;
 use instruction_walk::usual;
 
 // The dwords of the chunk that gives these rows, its two header dwords among them; or there is no such chunk.
@@ -83,9 +83,6 @@ fn next(
     ) else {
         return Step::Off;
     };
-    if 262_144 < s.at + dwords {
-        return Step::Off;
-    }
     Step::On(Walk {
         at: s.at + dwords,
         instruction: s.instruction + 1,
@@ -107,7 +104,8 @@ fn walk_to(place: usize, first: usize, row: usize, word: usize) -> Walk
 }
 
 // Walks past as many instructions, whose rows are these, as are told at once, which may be none. On the way a place is counted
-// in bytes and a row by its first word, as they are handed on.
+// in bytes and a row by its first word, as they are handed on. The place may pass a chunk's greatest length: since it only
+// grows, `walk_all` asks that once, at the end. No sum overflows, since each row tells its own place in 32 bits.
 fn ahead(
     rows: &[u32],
     operands: &[u32],
@@ -135,11 +133,7 @@ fn ahead(
         if d == 0 {
             break;
         }
-        let next = place + d * 4;
-        if 0x10_0000 < next {
-            break;
-        }
-        place = next;
+        place += d * 4;
         row += wide(rows[i + 13]);
         i += 16;
         word = end;
@@ -171,6 +165,9 @@ fn walk_all(
             Step::On(t) => s = ahead(instructions, operands, words, t, ceiling, model51),
             Step::Off => return Read::No,
         }
+    }
+    if 262_144 < s.at {
+        return Read::No;
     }
     if s.row * 16 < operands.len() {
         return Read::No;

@@ -8,7 +8,7 @@ use Rattle.decode.proofs.decode_body.Statement.{statement}
 use Rattle.decode.proofs.decode_body.Tie as tie
 use Rattle.decode.proofs.decode_body.Reads as reads
 use Rattle.decode.proofs.decode_body.Lts as lts
-use Rattle.decode.proofs.write_all.Reads as write-all-reads
+use Rattle.stream_write.proofs.write_all.Reads as write-all-reads
 use Rattle.header.proofs.clear.Reads as clear-reads
 use Rattle.header.proofs.is_model51.Reads as is-model51-reads
 use Rattle.stream.proofs.measure.Reads as measure-reads

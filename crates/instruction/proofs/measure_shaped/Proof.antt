@@ -1,7 +1,8 @@
 use borrow.Author.Tests.{not-true, not-false}
 use Rattle.format.specs.Dwords.{dwordsOf}
 use Rattle.layouts.specs.Shapes.{meant}
-use Rattle.instruction.proofs.Verdicts.{head-lost, head-off, headed-at, parts-off, parts-inexact, head-inexact, all-fine}
+use Rattle.instruction.proofs.Verdicts.{head-lost, parts-off, parts-inexact, head-inexact, all-fine}
+use Rattle.instruction_fields.proofs.Heads.{head-off, headed-at}
 use borrow.Author.Needs.{needs}
 use Rattle.instruction.proofs.measure_shaped.Statement.{statement}
 use Rattle.instruction.proofs.measure_shaped.Tie as tie

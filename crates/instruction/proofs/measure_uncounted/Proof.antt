@@ -2,7 +2,7 @@
 use borrow.Author.Needs.{needs}
 use mathlib.Core.Path.{_∙_}
 use native.Mathlib.Omega.{arith}
-use Rattle.instruction.proofs.Quickly.{declared-by}
+use Rattle.instruction_fields.proofs.BareTokens.{declared-by}
 use Rattle.instruction.proofs.measure_uncounted.Statement.{statement}
 use Rattle.instruction.proofs.measure_uncounted.Tie as tie
 

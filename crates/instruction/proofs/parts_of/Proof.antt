@@ -1,7 +1,8 @@
 use borrow.Author.Tests.{not-true, not-false}
 use native.Mathlib.Omega.{arith}
 use Rattle.format.proofs.Dwords.{length-dwords}
-use Rattle.instruction.proofs.Shaped.{before-off, place-within, place-above, operands-off, run-within, rest-off, body-read}
+use Rattle.instruction.proofs.Shaped.{before-off, operands-off, run-within, rest-off, body-read}
+use Rattle.instruction_fields.proofs.Rests.{place-within, place-above}
 use borrow.Author.Needs.{needs}
 use Rattle.instruction.proofs.parts_of.Statement.{statement}
 use Rattle.instruction.proofs.parts_of.Tie as tie

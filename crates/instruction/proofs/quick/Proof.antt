@@ -3,7 +3,7 @@ use borrow.Author.Needs.{needs}
 use mathlib.Core.Path.{sym, _∙_}
 use native.Mathlib.Omega.{arith}
 use borrow.Author.Tests.{not-false}
-use Rattle.instruction.proofs.Tokens.{few}
+use Rattle.instruction_fields.proofs.Tokens.{few}
 use Rattle.instruction.proofs.Quickly.{not-quick, quickly}
 use Rattle.instruction.proofs.quick.Statement.{statement}
 use Rattle.instruction.proofs.quick.Tie as tie

@@ -1,6 +1,6 @@
 use native.Mathlib.Omega.{arith}
 use borrow.Author.Tests.{not-false}
-use Rattle.instruction_walk.proofs.Deciding.{told}
+use Rattle.instruction_deep.proofs.Deciding.{told}
 use Rattle.instruction_walk.proofs.Short.{untold, ran-to, one-by-one}
 use borrow.Author.Needs.{needs}
 use Rattle.instruction_walk.proofs.by_count.Statement.{statement}

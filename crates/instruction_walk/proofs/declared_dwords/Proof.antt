@@ -1,6 +1,6 @@
 use mathlib.Core.Path.{refl}
 use native.Mathlib.Omega.{arith}
-use Rattle.instruction_walk.proofs.Runs.{first-bounds}
+use Rattle.instruction_deep.proofs.Runs.{first-bounds}
 use Rattle.instruction_walk.proofs.Short.{unsaid}
 use Rattle.instruction_walk.proofs.Declared.{behind-lone, ends, declared-walks}
 use borrow.Author.Needs.{needs}

@@ -1,6 +1,7 @@
 use Prim.Native.Nat.{_+_}
 use lib.ListN.{getD}
-use Rattle.instruction_walk.proofs.Chains.{bit-below, linked-row}
+use Rattle.instruction_deep.proofs.Chains.{bit-below}
+use Rattle.instruction_walk.proofs.Chain.{linked-row}
 use borrow.Author.Needs.{needs}
 use Rattle.instruction_walk.proofs.linked.Statement.{statement}
 use Rattle.instruction_walk.proofs.linked.Tie as tie

@@ -1,8 +1,8 @@
 use native.Mathlib.Omega.{arith}
-use Rattle.instruction.proofs.Quickly.{declared-by}
+use Rattle.instruction_fields.proofs.BareTokens.{declared-by}
 use Rattle.instruction_walk.proofs.Short.{unsaid}
 use Rattle.instruction_walk.proofs.Fitting.{stepped}
-use Rattle.instruction_walk.proofs.Ways.{by-known}
+use Rattle.instruction_walk.proofs.Ceiling.{by-known}
 use borrow.Author.Needs.{needs}
 use Rattle.instruction_walk.proofs.usual.Statement.{statement}
 use Rattle.instruction_walk.proofs.usual.Tie as tie

@@ -2,7 +2,7 @@ use mathlib.Core.Path.{sym, _∙_}
 use native.Mathlib.Omega.{arith}
 use Rattle.layouts.proofs.Others.{is-counted}
 use Rattle.instruction_walk.proofs.Short.{counted-row}
-use Rattle.instruction_walk.proofs.Ways.{by-unread, by-known}
+use Rattle.instruction_walk.proofs.Ceiling.{by-unread, by-known}
 use borrow.Author.Needs.{needs}
 use Rattle.instruction_walk.proofs.walk.Statement.{statement}
 use Rattle.instruction_walk.proofs.walk.Tie as tie

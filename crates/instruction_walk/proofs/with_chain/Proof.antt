@@ -1,5 +1,5 @@
 use native.Mathlib.Omega.{arith}
-use Rattle.instruction_walk.proofs.Chains.{unlinked, few-linked, linked-there}
+use Rattle.instruction_walk.proofs.Chain.{unlinked, few-linked, linked-there}
 use Rattle.instruction_walk.proofs.Short.{unsaid}
 use borrow.Author.Needs.{needs}
 use Rattle.instruction_walk.proofs.with_chain.Statement.{statement}

@@ -2,7 +2,7 @@
 use borrow.Author.Needs.{needs}
 use mathlib.Core.Path.{refl}
 use Rattle.format.specs.Dwords.{dwordsOf}
-use Rattle.instruction.proofs.Counted.{no-chain}
+use Rattle.instruction_fields.proofs.Counted.{no-chain}
 use Rattle.instruction_write.proofs.Counting.{counted-lost, counted-room, counted-ready, counted-written}
 use Rattle.instruction_write.proofs.write_counted.Statement.{statement}
 use Rattle.instruction_write.proofs.write_counted.Tie as tie

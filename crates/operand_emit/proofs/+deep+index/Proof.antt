@@ -12,7 +12,7 @@ use Rattle.operand_emit.proofs.+deep+index.Lts-deep as deep-lts
 use Rattle.operand_emit.proofs.index.Reads as index
 use Rattle.operand_emit.proofs.index.Kinds as index-kinds
 use Rattle.operand_emit.proofs.+deep+index.Lts-index as index-lts
-use Rattle.operand_emit.proofs.copy.Reads as copy-reads
+use Rattle.output.proofs.copy.Reads as copy-reads
 use Rattle.operand_emit.proofs.dword.Reads as dword-reads
 use Rattle.operand_emit.proofs.head.Reads as head-reads
 use Rattle.operand_emit.proofs.lone.Reads as lone-reads

@@ -1,7 +1,7 @@
 use mathlib.Core.Path.{_∙_}
 use native.Mathlib.Omega.{arith}
 use lib.Dec.{lit<}
-use Rattle.operand_walk.proofs.Alone.{other, lower, unmodified, unlike, starting, bare-row}
+use Rattle.operand_walk.proofs.Alone.{other, lower, unmodified, starting, bare-row}
 use borrow.Author.Needs.{needs}
 use Rattle.operand_walk.proofs.bare.Statement.{statement}
 use Rattle.operand_walk.proofs.bare.Tie as tie
@@ -84,16 +84,19 @@ pair-requires-5 c κs = search needs
 returns-6 : tie.Need-returns-6
 returns-6 c = other
 
-shared-slice-read-result : tie.Need-shared-slice-read-result
-shared-slice-read-result c = search needs
+shared-slice-read-indexed : tie.Need-shared-slice-read-indexed
+shared-slice-read-indexed c = search needs
+
+indexed-requires : tie.Need-indexed-requires
+indexed-requires c κs = search needs
 
 returns-7 : tie.Need-returns-7
-returns-7 c = λ e h. bare-row (c .before .before .before .before .before .before .before .before .before .before .before .before .before .before .before .before .before .before .before .before .before .before .before .before .before .before .before .before .args .q .now) (c .before .before .before .before .before .before .before .before .before .before .before .before .before .before .before .before .before .before .before .before .before .before .before .before .before .before .before .before .args .word) 1 (c .before .before .before .before .before .before .before .before .before .before .before .before .before .before .before .before .before .before .before .before .before .before .before .before .before .before .before .before .pre .0) (c .before .before .before .before .before .before .before .before .before .before .before .before .before .before .before .before .before .before .before .before .before .before .before .before .before .before .before .before .pre .1)
-    (unmodified (c .before .before .before .before .before .before .before .before .before .before .before .before .before .before .before .before .before .before .before .before .before .before .before .before .before .before .before .before .args .q .now) (c .before .before .before .before .before .before .selections .ensures) (c .before .before .before .before .before .long .ensures) (c .before .before .pair5 .ensures .0) (c .before .if6 .left))
-    (starting (c .before .before .before .before .before .before .before .before .before .before .before .before .before .before .before .before .before .before .before .before .before .before .before .before .before .before .before .before .args .q .now) (c .before .before .before .before .before .before .before .before .before .before .before .before .before .before .before .before .before .before .before .before .before .before .before .before .before .before .before .before .args .word) (unlike _ _ e) (lower _ _ 0 (c .before .before .before .before .before .before .before .before .before .before .before .before .before .before .pair3 .ensures .0) (c .before .before .before .before .before .before .before .before .before .before .before .before .before .before .pair3 .ensures .1) (lit< tt) (c .before .before .before .before .before .before .before .before .before .before .before .before .before .if4 .left)) (lower _ _ (c .before .before .before .before .before .before .before .before .before .before .before .before .before .before .before .before .before .before .before .before .before .before .before .before .before .before .before .before .args .word) (c .before .before .before .before .before .before .before .before .before .before .pair4 .ensures .0) (c .before .before .before .before .before .before .before .before .before .before .pair4 .ensures .1) h (c .before .before .before .before .before .before .before .before .if5 .left ∙ c .before .before .before .before .before .before .before .before .before .far .ensures) .0) h)
-    (omega arith) (omega arith) (lower _ _ 1 (c .before .before .before .before .before .before .before .before .before .before .before .before .before .before .before .before .before .before .pair2 .ensures .0) (c .before .before .before .before .before .before .before .before .before .before .before .before .before .before .before .before .before .before .pair2 .ensures .1) (lit< tt) (c .before .before .before .before .before .before .before .before .before .before .before .before .before .before .before .before .before .if3 .left))
-    (lower _ _ (c .before .before .before .before .before .before .before .before .before .before .before .before .before .before .before .before .before .before .before .before .before .before .before .before .before .before .before .before .args .word) (c .before .before .before .before .before .before .before .before .before .before .pair4 .ensures .0) (c .before .before .before .before .before .before .before .before .before .before .pair4 .ensures .1) h (c .before .before .before .before .before .before .before .before .if5 .left ∙ c .before .before .before .before .before .before .before .before .before .far .ensures) .1)
-    (lower _ _ 0 (c .before .before .before .before .before .before .before .before .before .before .before .before .before .before .before .before .before .before .before .before .before .before .pair .ensures .0) (c .before .before .before .before .before .before .before .before .before .before .before .before .before .before .before .before .before .before .before .before .before .before .pair .ensures .1) (lit< tt) (c .before .before .before .before .before .before .before .before .before .before .before .before .before .before .before .before .before .before .before .before .before .if2 .left) .0) (lower _ _ 0 (c .before .before .before .before .before .before .before .before .before .before .before .before .before .before .before .before .before .before .before .before .before .before .pair .ensures .0) (c .before .before .before .before .before .before .before .before .before .before .before .before .before .before .before .before .before .before .before .before .before .before .pair .ensures .1) (lit< tt) (c .before .before .before .before .before .before .before .before .before .before .before .before .before .before .before .before .before .before .before .before .before .if2 .left) .1) (c .before .before .before .before .before .before .before .before .before .before .before .before .before .before .before .before .before .before .before .before .before .before .before .before .before .if1 .left)
+returns-7 c = λ e h. bare-row (c .before .before .before .before .before .before .before .before .before .before .before .before .before .before .before .before .before .before .before .before .before .before .before .before .before .before .before .before .before .args .q .now) (c .before .before .before .before .before .before .before .before .before .before .before .before .before .before .before .before .before .before .before .before .before .before .before .before .before .before .before .before .before .args .word) 1 (c .before .before .before .before .before .before .before .before .before .before .before .before .before .before .before .before .before .before .before .before .before .before .before .before .before .before .before .before .before .pre .0) (c .before .before .before .before .before .before .before .before .before .before .before .before .before .before .before .before .before .before .before .before .before .before .before .before .before .before .before .before .before .pre .1)
+    (unmodified (c .before .before .before .before .before .before .before .before .before .before .before .before .before .before .before .before .before .before .before .before .before .before .before .before .before .before .before .before .before .args .q .now) (c .before .before .before .before .before .before .before .selections .ensures) (c .before .before .before .before .before .before .long .ensures) (c .before .before .before .pair5 .ensures .0) (c .before .before .if6 .left))
+    (starting (c .before .before .before .before .before .before .before .before .before .before .before .before .before .before .before .before .before .before .before .before .before .before .before .before .before .before .before .before .before .args .q .now) (c .before .before .before .before .before .before .before .before .before .before .before .before .before .before .before .before .before .before .before .before .before .before .before .before .before .before .before .before .before .args .word) (c .indexed .ensures e) (lower _ _ 0 (c .before .before .before .before .before .before .before .before .before .before .before .before .before .before .before .pair3 .ensures .0) (c .before .before .before .before .before .before .before .before .before .before .before .before .before .before .before .pair3 .ensures .1) (lit< tt) (c .before .before .before .before .before .before .before .before .before .before .before .before .before .before .if4 .left)) (lower _ _ (c .before .before .before .before .before .before .before .before .before .before .before .before .before .before .before .before .before .before .before .before .before .before .before .before .before .before .before .before .before .args .word) (c .before .before .before .before .before .before .before .before .before .before .before .pair4 .ensures .0) (c .before .before .before .before .before .before .before .before .before .before .before .pair4 .ensures .1) h (c .before .before .before .before .before .before .before .before .before .if5 .left ∙ c .before .before .before .before .before .before .before .before .before .before .far .ensures) .0) h)
+    (omega arith) (omega arith) (lower _ _ 1 (c .before .before .before .before .before .before .before .before .before .before .before .before .before .before .before .before .before .before .before .pair2 .ensures .0) (c .before .before .before .before .before .before .before .before .before .before .before .before .before .before .before .before .before .before .before .pair2 .ensures .1) (lit< tt) (c .before .before .before .before .before .before .before .before .before .before .before .before .before .before .before .before .before .before .if3 .left))
+    (lower _ _ (c .before .before .before .before .before .before .before .before .before .before .before .before .before .before .before .before .before .before .before .before .before .before .before .before .before .before .before .before .before .args .word) (c .before .before .before .before .before .before .before .before .before .before .before .pair4 .ensures .0) (c .before .before .before .before .before .before .before .before .before .before .before .pair4 .ensures .1) h (c .before .before .before .before .before .before .before .before .before .if5 .left ∙ c .before .before .before .before .before .before .before .before .before .before .far .ensures) .1)
+    (lower _ _ 0 (c .before .before .before .before .before .before .before .before .before .before .before .before .before .before .before .before .before .before .before .before .before .before .before .pair .ensures .0) (c .before .before .before .before .before .before .before .before .before .before .before .before .before .before .before .before .before .before .before .before .before .before .before .pair .ensures .1) (lit< tt) (c .before .before .before .before .before .before .before .before .before .before .before .before .before .before .before .before .before .before .before .before .before .before .if2 .left) .0) (lower _ _ 0 (c .before .before .before .before .before .before .before .before .before .before .before .before .before .before .before .before .before .before .before .before .before .before .before .pair .ensures .0) (c .before .before .before .before .before .before .before .before .before .before .before .before .before .before .before .before .before .before .before .before .before .before .before .pair .ensures .1) (lit< tt) (c .before .before .before .before .before .before .before .before .before .before .before .before .before .before .before .before .before .before .before .before .before .before .if2 .left) .1) (c .before .before .before .before .before .before .before .before .before .before .before .before .before .before .before .before .before .before .before .before .before .before .before .before .before .before .if1 .left)
 
 pub bare-spec : {M : Type 1} → statement M
 bare-spec =
@@ -125,5 +128,6 @@ bare-spec =
     shared-slice-read-pair-10
     pair-requires-5
     returns-6
-    shared-slice-read-result
+    shared-slice-read-indexed
+    indexed-requires
     returns-7)

@@ -1,5 +1,4 @@
-use lib.Dec.{lit<}
-use Rattle.operand_walk.proofs.Alone.{other, lower, common-row}
+use Rattle.operand_walk.proofs.Alone.{other, common-row}
 use borrow.Author.Needs.{needs}
 use Rattle.operand_walk.proofs.common.Statement.{statement}
 use Rattle.operand_walk.proofs.common.Tie as tie
@@ -20,13 +19,7 @@ pair-requires : tie.Need-pair-requires
 pair-requires c κs = search needs
 
 returns-2 : tie.Need-returns-2
-returns-2 c = other
-
-shared-slice-read-result : tie.Need-shared-slice-read-result
-shared-slice-read-result c = search needs
-
-returns-3 : tie.Need-returns-3
-returns-3 c = common-row (c .before .before .before .before .before .before .before .before .args .q .now) (c .before .before .before .before .before .if1 .left) (lower _ _ 0 (c .before .before .pair .ensures .0) (c .before .before .pair .ensures .1) (lit< tt) (c .before .if2 .left))
+returns-2 c = common-row (c .before .before .before .before .before .before .args .q .now) (c .before .before .before .if1 .left) (c .pair .ensures .0) (c .pair .ensures .1)
 
 pub common-spec : {M : Type 1} → statement M
 common-spec =
@@ -37,6 +30,4 @@ common-spec =
     shared-slice-read-pair
     shared-slice-read-pair-2
     pair-requires
-    returns-2
-    shared-slice-read-result
-    returns-3)
+    returns-2)

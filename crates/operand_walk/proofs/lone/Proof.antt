@@ -60,11 +60,17 @@ wide-requires c κs = search needs
 returns-5 : tie.Need-returns-5
 returns-5 c = other-row _ _
 
-index-words-requires : tie.Need-index-words-requires
-index-words-requires c κs = (c .before .before .before .before .before .before .before .before .before .before .before .before .before .before .before .before .before .before .pre .0, plain-row (c .before .before .before .before .before .before .before .before .before .before .before .before .before .before .before .before .before .before .args .q .now) (c .before .before .before .before .before .before .before .before .before .before .before .before .before .before .before .before .before .before .pre .1) (c .before .before .before .before .before .before .before .before .before .before .before .before .before .before .before .selections .ensures) (c .before .before .before .before .before .before .before .before .before .before .before .before .before .before .long .ensures) (c .before .before .before .before .before .before .before .before .before .before .before .before .long2 .ensures) (c .before .before .before .before .before .before .before .before .before .before .before .if1 .left) (c .before .before .before .before .before .before .before .before .before .if2 .left), starting (c .before .before .before .before .before .before .before .before .before .before .before .before .before .before .before .before .before .before .args .q .now) (c .before .before .before .before .before .before .before .before .before .before .before .before .before .before .before .before .before .before .args .word) (c .before .before .before .before .before .before .before .if3 .left) (lower _ _ 0 (c .before .before .before .before .pair .ensures .0) (c .before .before .before .before .pair .ensures .1) (lit< tt) (c .before .before .before .if4 .left)) (sym (c .before .wide .ensures .0) ∙ c .if5 .left) (omega (arith, c .before .wide .ensures .1, c .if5 .left)))
+shared-slice-read-if6 : tie.Need-shared-slice-read-if6
+shared-slice-read-if6 c = search needs
 
 returns-6 : tie.Need-returns-6
-returns-6 c = search needs
+returns-6 c = other-row _ _
+
+index-words-requires : tie.Need-index-words-requires
+index-words-requires c κs = (c .before .before .before .before .before .before .before .before .before .before .before .before .before .before .before .before .before .before .before .before .pre .0, plain-row (c .before .before .before .before .before .before .before .before .before .before .before .before .before .before .before .before .before .before .before .before .args .q .now) (c .before .before .before .before .before .before .before .before .before .before .before .before .before .before .before .before .before .before .before .before .pre .1) (c .before .before .before .before .before .before .before .before .before .before .before .before .before .before .before .before .before .selections .ensures) (c .before .before .before .before .before .before .before .before .before .before .before .before .before .before .before .before .long .ensures) (c .before .before .before .before .before .before .before .before .before .before .before .before .before .before .long2 .ensures) (c .before .before .before .before .before .before .before .before .before .before .before .before .before .if1 .left) (c .before .before .before .before .before .before .before .before .before .before .before .if2 .left), starting (c .before .before .before .before .before .before .before .before .before .before .before .before .before .before .before .before .before .before .before .before .args .q .now) (c .before .before .before .before .before .before .before .before .before .before .before .before .before .before .before .before .before .before .before .before .args .word) (c .if6 .left, c .before .before .before .before .before .before .before .before .before .if3 .left) (lower _ _ 0 (c .before .before .before .before .before .before .pair .ensures .0) (c .before .before .before .before .before .before .pair .ensures .1) (lit< tt) (c .before .before .before .before .before .if4 .left)) (sym (c .before .before .before .wide .ensures .0) ∙ c .before .before .if5 .left) (omega (arith, c .before .before .before .wide .ensures .1, c .before .before .if5 .left)))
+
+returns-7 : tie.Need-returns-7
+returns-7 c = search needs
 
 pub lone-spec : {M : Type 1} → statement M
 lone-spec =
@@ -88,5 +94,7 @@ lone-spec =
     shared-slice-read-wide
     wide-requires
     returns-5
+    shared-slice-read-if6
+    returns-6
     index-words-requires
-    returns-6)
+    returns-7)

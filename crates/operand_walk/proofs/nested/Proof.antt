@@ -99,7 +99,7 @@ shared-slice-read-result c = search needs
 
 returns-10 : tie.Need-returns-10
 returns-10 c = λ e. nested-row (c .before .before .before .before .before .before .before .before .before .before .before .before .before .before .before .before .before .before .before .before .before .before .before .before .before .before .before .before .before .args .q .now) (c .before .before .before .before .before .before .before .before .before .before .before .before .before .before .before .before .before .before .before .before .before .before .before .before .before .before .before .before .before .args .row) (c .before .before .before .before .before .before .before .before .before .before .before .before .before .before .before .before .before .before .before .before .before .before .before .before .before .before .before .before .before .args .word) (c .before .before .before .before .before .before .before .before .before .before .before .before .before .before .before .before .before .before .before .before .before .before .before .before .before .before .before .before .before .args .own) (c .before .before .before .before .before .before .before .before .before .before .before .before .before .before .before .before .before .before .before .before .before .before .before .before .before .before .before .leading .ensures (not-false _ (c .before .before .before .before .before .before .before .before .before .before .before .before .before .before .before .before .before .before .before .before .before .before .before .before .before .before .if1 .left))) (c .before .before .before .before .before .before .before .before .before .before .before .before .before .before .before .before .before .before .before .before .before .before .before .before .wide .ensures .0) (c .before .before .before .before .before .before .before .before .before .before .before .before .before .before .before .before .before .before .before .before .before .before .before .if2 .left) (c .before .before .before .before .before .before .before .before .before .before .before .before .before .before .before .before .before .before .before .before .before .selections .ensures) (c .before .before .before .before .before .before .before .before .before .before .before .before .before .before .before .before .before .before .before .if3 .left) (c .before .before .before .before .before .before .before .before .before .before .before .before .before .before .before .before .before .if4 .left)
-    (starting (c .before .before .before .before .before .before .before .before .before .before .before .before .before .before .before .before .before .before .before .before .before .before .before .before .before .before .before .before .before .args .q .now) (c .before .before .before .before .before .before .before .before .before .before .before .before .before .before .before .before .before .before .before .before .before .before .before .before .before .before .before .before .before .args .word) (c .before .before .if9 .left) (lower _ _ 0 (c .before .before .before .before .before .before .before .before .before .before .before .before .before .before .pair .ensures .0) (c .before .before .before .before .before .before .before .before .before .before .before .before .before .before .pair .ensures .1) (lit< tt) (c .before .before .before .before .before .before .before .before .before .before .before .before .before .if5 .left)) (sym (c .before .before .before .before .before .before .before .before .before .wide2 .ensures .0) ∙ c .before .before .before .before .before .before .before .before .if7 .left) (omega (arith, c .before .before .before .before .before .before .before .before .before .wide2 .ensures .1, c .before .before .before .before .before .before .before .before .if7 .left)))
+    (starting (c .before .before .before .before .before .before .before .before .before .before .before .before .before .before .before .before .before .before .before .before .before .before .before .before .before .before .before .before .before .args .q .now) (c .before .before .before .before .before .before .before .before .before .before .before .before .before .before .before .before .before .before .before .before .before .before .before .before .before .before .before .before .before .args .word) (c .before .before .before .before .before .before .before .before .before .before .before .before .before .before .before .before .before .before .before .before .before .before .before .before .before .before .before .leading .ensures (not-false _ (c .before .before .before .before .before .before .before .before .before .before .before .before .before .before .before .before .before .before .before .before .before .before .before .before .before .before .if1 .left)) .type, c .before .before .if9 .left) (lower _ _ 0 (c .before .before .before .before .before .before .before .before .before .before .before .before .before .before .pair .ensures .0) (c .before .before .before .before .before .before .before .before .before .before .before .before .before .before .pair .ensures .1) (lit< tt) (c .before .before .before .before .before .before .before .before .before .before .before .before .before .if5 .left)) (sym (c .before .before .before .before .before .before .before .before .before .wide2 .ensures .0) ∙ c .before .before .before .before .before .before .before .before .if7 .left) (omega (arith, c .before .before .before .before .before .before .before .before .before .wide2 .ensures .1, c .before .before .before .before .before .before .before .before .if7 .left)))
     (c .before .before .before .before .before .before .before .before .before .before .before .if6 .left) (c .before .before .before .before .before .extended .ensures .0) (c .before .before .before .before .if8 .left) (no-word (c .before .before .before .before .before .before .before .before .before .before .before .before .before .before .before .before .before .before .before .before .before .before .before .before .before .before .before .before .before .args .own) _ _ (c .before .if10 .taken) e)
 
 shared-slice-read-wide-3 : tie.Need-shared-slice-read-wide-3
@@ -113,7 +113,7 @@ add-result c = search needs
 
 returns-11 : tie.Need-returns-11
 returns-11 c = λ e. nested-row (c .before .before .before .before .before .before .before .before .before .before .before .before .before .before .before .before .before .before .before .before .before .before .before .before .before .before .before .before .before .before .args .q .now) (c .before .before .before .before .before .before .before .before .before .before .before .before .before .before .before .before .before .before .before .before .before .before .before .before .before .before .before .before .before .before .args .row) (c .before .before .before .before .before .before .before .before .before .before .before .before .before .before .before .before .before .before .before .before .before .before .before .before .before .before .before .before .before .before .args .word) (c .before .before .before .before .before .before .before .before .before .before .before .before .before .before .before .before .before .before .before .before .before .before .before .before .before .before .before .before .before .before .args .own) (c .before .before .before .before .before .before .before .before .before .before .before .before .before .before .before .before .before .before .before .before .before .before .before .before .before .before .before .before .leading .ensures (not-false _ (c .before .before .before .before .before .before .before .before .before .before .before .before .before .before .before .before .before .before .before .before .before .before .before .before .before .before .before .if1 .left))) (c .before .before .before .before .before .before .before .before .before .before .before .before .before .before .before .before .before .before .before .before .before .before .before .before .before .wide .ensures .0) (c .before .before .before .before .before .before .before .before .before .before .before .before .before .before .before .before .before .before .before .before .before .before .before .before .if2 .left) (c .before .before .before .before .before .before .before .before .before .before .before .before .before .before .before .before .before .before .before .before .before .before .selections .ensures) (c .before .before .before .before .before .before .before .before .before .before .before .before .before .before .before .before .before .before .before .before .if3 .left) (c .before .before .before .before .before .before .before .before .before .before .before .before .before .before .before .before .before .before .if4 .left)
-    (starting (c .before .before .before .before .before .before .before .before .before .before .before .before .before .before .before .before .before .before .before .before .before .before .before .before .before .before .before .before .before .before .args .q .now) (c .before .before .before .before .before .before .before .before .before .before .before .before .before .before .before .before .before .before .before .before .before .before .before .before .before .before .before .before .before .before .args .word) (c .before .before .before .if9 .left) (lower _ _ 0 (c .before .before .before .before .before .before .before .before .before .before .before .before .before .before .before .pair .ensures .0) (c .before .before .before .before .before .before .before .before .before .before .before .before .before .before .before .pair .ensures .1) (lit< tt) (c .before .before .before .before .before .before .before .before .before .before .before .before .before .before .if5 .left)) (sym (c .before .before .before .before .before .before .before .before .before .before .wide2 .ensures .0) ∙ c .before .before .before .before .before .before .before .before .before .if7 .left) (omega (arith, c .before .before .before .before .before .before .before .before .before .before .wide2 .ensures .1, c .before .before .before .before .before .before .before .before .before .if7 .left)))
+    (starting (c .before .before .before .before .before .before .before .before .before .before .before .before .before .before .before .before .before .before .before .before .before .before .before .before .before .before .before .before .before .before .args .q .now) (c .before .before .before .before .before .before .before .before .before .before .before .before .before .before .before .before .before .before .before .before .before .before .before .before .before .before .before .before .before .before .args .word) (c .before .before .before .before .before .before .before .before .before .before .before .before .before .before .before .before .before .before .before .before .before .before .before .before .before .before .before .before .leading .ensures (not-false _ (c .before .before .before .before .before .before .before .before .before .before .before .before .before .before .before .before .before .before .before .before .before .before .before .before .before .before .before .if1 .left)) .type, c .before .before .before .if9 .left) (lower _ _ 0 (c .before .before .before .before .before .before .before .before .before .before .before .before .before .before .before .pair .ensures .0) (c .before .before .before .before .before .before .before .before .before .before .before .before .before .before .before .pair .ensures .1) (lit< tt) (c .before .before .before .before .before .before .before .before .before .before .before .before .before .before .if5 .left)) (sym (c .before .before .before .before .before .before .before .before .before .before .wide2 .ensures .0) ∙ c .before .before .before .before .before .before .before .before .before .if7 .left) (omega (arith, c .before .before .before .before .before .before .before .before .before .before .wide2 .ensures .1, c .before .before .before .before .before .before .before .before .before .if7 .left)))
     (c .before .before .before .before .before .before .before .before .before .before .before .before .if6 .left) (c .before .before .before .before .before .before .extended .ensures .0) (c .before .before .before .before .before .if8 .left) (a-word (c .before .before .before .before .before .before .before .before .before .before .before .before .before .before .before .before .before .before .before .before .before .before .before .before .before .before .before .before .before .before .args .own) _ _ (c .before .before .if10 .left) (c .wide3 .ensures .0) e)
 
 pub nested-spec : {M : Type 1} → statement M

@@ -2,7 +2,7 @@ use Prim.Native.Nat.{_*_}
 use mathlib.Core.Logic.{⊎-elim}
 use native.Mathlib.Omega.{arith}
 use borrow.Author.Tests.{not-false}
-use Rattle.operand_walk.proofs.SameRows.{rest-long}
+use Rattle.operand_deep.proofs.SameRows.{rest-long}
 use Rattle.operand_walk.proofs.Alone.{no-own, own-one}
 use Rattle.operand_walk.proofs.Runs.{unsaid, points}
 use borrow.Author.Needs.{needs}

@@ -1,5 +1,5 @@
 use native.Mathlib.Omega.{arith}
-use Rattle.operand_walk.proofs.Walks.{deepest, no-row}
+use Rattle.operand_deep.proofs.Walks.{deepest, no-row}
 use Rattle.operand_walk.proofs.Runs.{one-walks, two-walk}
 use borrow.Author.Needs.{needs}
 use Rattle.operand_walk.proofs.walk.Statement.{statement}

@@ -3,7 +3,7 @@ use lib.ListN.{length}
 use native.Mathlib.Omega.{arith}
 use borrow.Author.Needs.{needs}
 use Rattle.reading.specs.Walks.{spot, answer}
-use Rattle.reading.proofs.Walks.{Ahead, set-out, arrived, ahead-rows, ahead-size, ahead-on}
+use Rattle.reading.proofs.Walks.{Ahead, set-out, arrived, ahead-rows, ahead-near, ahead-on}
 use Rattle.reading.proofs.ahead.Statement.{statement}
 use Rattle.reading.proofs.ahead.Tie as tie
 
@@ -49,35 +49,35 @@ part-part-end c = search needs
 usual-requires : tie.Need-usual-requires Inv-loop μ-loop
 usual-requires c κs = (omega (arith, c .before .before .before .before .before .loop .inv .first-is, c .before .before .before .before .before .before .before .before .before .before .before .pre .0, c .before .before .before .before .loop-test .taken), search needs, c .before .before .before .before .before .before .before .before .before .before .before .pre .3, search needs)
 
-mul-next : tie.Need-mul-next Inv-loop μ-loop
-mul-next c = omega (arith, ahead-size (c .before .before .before .before .before .before .before .loop .inv) (omega (arith, c .before .before .before .before .before .before .before .loop .inv .first-is, c .before .before .before .before .before .before .before .before .before .before .before .before .before .pre .0, c .before .before .before .before .before .before .loop-test .taken)) (c .before .before .before .before .wide .ensures) (c .before .before .before .if1 .left) (c .before .usual .ensures (omega (arith, c .if2 .left))), c .before .before .before .before .before .before .before .before .before .before .before .before .shared-slice-known .given (c .before .before .before .before .before .before .before .loop .i + 1))
+mul-place-2 : tie.Need-mul-place-2 Inv-loop μ-loop
+mul-place-2 c = omega (arith, ahead-near (c .before .before .before .before .before .before .before .loop .inv) (omega (arith, c .before .before .before .before .before .before .before .loop .inv .first-is, c .before .before .before .before .before .before .before .before .before .before .before .before .before .pre .0, c .before .before .before .before .before .before .loop-test .taken)) (c .before .before .before .before .wide .ensures) (c .before .before .before .if1 .left) (c .before .usual .ensures (omega (arith, c .if2 .left))) (λ j. omega (arith, c .before .before .before .before .before .before .before .before .before .before .before .before .shared-slice-known .given j)))
 
-add-next : tie.Need-add-next Inv-loop μ-loop
-add-next c = omega (arith, ahead-size (c .before .before .before .before .before .before .before .loop .inv) (omega (arith, c .before .before .before .before .before .before .before .loop .inv .first-is, c .before .before .before .before .before .before .before .before .before .before .before .before .before .pre .0, c .before .before .before .before .before .before .loop-test .taken)) (c .before .before .before .before .wide .ensures) (c .before .before .before .if1 .left) (c .before .usual .ensures (omega (arith, c .if2 .left))), c .before .before .before .before .before .before .before .before .before .before .before .before .shared-slice-known .given (c .before .before .before .before .before .before .before .loop .i + 1), c .before .before .before .before .before .before .before .loop .inv .walking .at-most, c .before .before .before .before .before .before .before .loop .inv .place-is)
+add-place : tie.Need-add-place Inv-loop μ-loop
+add-place c = omega (arith, ahead-near (c .before .before .before .before .before .before .before .loop .inv) (omega (arith, c .before .before .before .before .before .before .before .loop .inv .first-is, c .before .before .before .before .before .before .before .before .before .before .before .before .before .pre .0, c .before .before .before .before .before .before .loop-test .taken)) (c .before .before .before .before .wide .ensures) (c .before .before .before .if1 .left) (c .before .usual .ensures (omega (arith, c .if2 .left))) (λ j. omega (arith, c .before .before .before .before .before .before .before .before .before .before .before .before .shared-slice-known .given j)))
 
 add-wide-2 : tie.Need-add-wide-2 Inv-loop μ-loop
-add-wide-2 c = omega (arith, c .before .before .before .before .before .before .before .loop-test .taken, c .before .before .before .before .before .before .before .before .before .before .before .before .before .before .good)
+add-wide-2 c = omega (arith, c .before .before .before .before .before .before .loop-test .taken, c .before .before .before .before .before .before .before .before .before .before .before .before .before .good)
 
 mul-wide-2 : tie.Need-mul-wide-2 Inv-loop μ-loop
-mul-wide-2 c = omega (arith, c .before .before .before .before .before .before .before .before .before .before .before .before .before .before .good)
+mul-wide-2 c = omega (arith, c .before .before .before .before .before .before .before .before .before .before .before .before .before .good)
 
 shared-slice-read-wide-2 : tie.Need-shared-slice-read-wide-2 Inv-loop μ-loop
-shared-slice-read-wide-2 c = omega (arith, c .before .before .before .before .before .before .before .before .before .loop .inv .first-is, c .before .before .before .before .before .before .before .before .before .before .before .before .before .before .before .pre .0, c .before .before .before .before .before .before .before .before .loop-test .taken)
+shared-slice-read-wide-2 c = omega (arith, c .before .before .before .before .before .before .before .before .loop .inv .first-is, c .before .before .before .before .before .before .before .before .before .before .before .before .before .before .pre .0, c .before .before .before .before .before .before .before .loop-test .taken)
 
 wide-requires-2 : tie.Need-wide-requires-2 Inv-loop μ-loop
 wide-requires-2 c κs = search needs
 
 add-row : tie.Need-add-row Inv-loop μ-loop
-add-row c = omega (arith, ahead-rows (c .before .before .before .before .before .before .before .before .before .before .loop .inv) (omega (arith, c .before .before .before .before .before .before .before .before .before .before .loop .inv .first-is, c .before .before .before .before .before .before .before .before .before .before .before .before .before .before .before .before .pre .0, c .before .before .before .before .before .before .before .before .before .loop-test .taken)) (c .before .before .before .before .before .before .before .wide .ensures) (c .before .before .before .before .before .before .if1 .left) (c .before .before .before .before .usual .ensures (omega (arith, c .before .before .before .if2 .left))), c .wide2 .ensures, c .before .before .before .before .before .before .before .before .before .before .before .before .before .before .before .before .good)
+add-row c = omega (arith, ahead-rows (c .before .before .before .before .before .before .before .before .before .loop .inv) (omega (arith, c .before .before .before .before .before .before .before .before .before .loop .inv .first-is, c .before .before .before .before .before .before .before .before .before .before .before .before .before .before .before .pre .0, c .before .before .before .before .before .before .before .before .loop-test .taken)) (c .before .before .before .before .before .before .wide .ensures) (c .before .before .before .before .before .if1 .left) (c .before .before .before .usual .ensures (omega (arith, c .before .before .if2 .left))), c .wide2 .ensures, c .before .before .before .before .before .before .before .before .before .before .before .before .before .before .before .good)
 
 add-i : tie.Need-add-i Inv-loop μ-loop
-add-i c = omega (arith, c .before .before .before .before .before .before .before .before .before .before .loop .inv .first-is, c .before .before .before .before .before .before .before .before .before .before .before .before .before .before .before .before .pre .0, c .before .before .before .before .before .before .before .before .before .loop-test .taken, c .before .before .before .before .before .before .before .before .before .before .before .before .before .before .before .before .good)
+add-i c = omega (arith, c .before .before .before .before .before .before .before .before .before .loop .inv .first-is, c .before .before .before .before .before .before .before .before .before .before .before .before .before .before .before .pre .0, c .before .before .before .before .before .before .before .before .loop-test .taken, c .before .before .before .before .before .before .before .before .before .before .before .before .before .before .before .good)
 
 loop-less : tie.Need-loop-less Inv-loop μ-loop
-loop-less c = omega (arith, c .before .before .before .before .before .before .before .before .before .loop-test .taken)
+loop-less c = omega (arith, c .before .before .before .before .before .before .before .before .loop-test .taken)
 
 loop-again : tie.Need-loop-again Inv-loop μ-loop
-loop-again c = ahead-on (c .before .before .before .before .before .before .before .before .before .before .loop .inv) (omega (arith, c .before .before .before .before .before .before .before .before .before .before .loop .inv .first-is, c .before .before .before .before .before .before .before .before .before .before .before .before .before .before .before .before .pre .0, c .before .before .before .before .before .before .before .before .before .loop-test .taken)) (c .before .before .before .before .before .before .before .wide .ensures) (c .before .before .before .before .before .before .if1 .left) (c .before .before .before .before .usual .ensures (omega (arith, c .before .before .before .if2 .left))) (c .wide2 .ensures) (omega (arith, c .before .before .if3 .left))
+loop-again c = ahead-on (c .before .before .before .before .before .before .before .before .before .loop .inv) (omega (arith, c .before .before .before .before .before .before .before .before .before .loop .inv .first-is, c .before .before .before .before .before .before .before .before .before .before .before .before .before .before .before .pre .0, c .before .before .before .before .before .before .before .before .loop-test .taken)) (c .before .before .before .before .before .before .wide .ensures) (c .before .before .before .before .before .if1 .left) (c .before .before .before .usual .ensures (omega (arith, c .before .before .if2 .left))) (c .wide2 .ensures) (λ j. omega (arith, c .before .before .before .before .before .before .before .before .before .before .before .before .before .before .shared-slice-known .given j))
 
 walk-to-requires : tie.Need-walk-to-requires Inv-loop μ-loop
 walk-to-requires c κs = search needs
@@ -103,8 +103,8 @@ ahead-spec =
     part-part-start
     part-part-end
     usual-requires
-    mul-next
-    add-next
+    mul-place-2
+    add-place
     add-wide-2
     mul-wide-2
     shared-slice-read-wide-2

@@ -2,7 +2,7 @@ use native.Mathlib.Omega.{arith}
 use Prim.Native.Nat.{_+_, _*_}
 use mathlib.Core.Path.{refl}
 use Rattle.reading.specs.Walks.{on}
-use Rattle.reading.proofs.Walks.{words-off, none-off, rows-fit, size-told, long-off, walked-past}
+use Rattle.reading.proofs.Walks.{words-off, none-off, rows-fit, near, walked-past}
 use borrow.Author.Needs.{needs}
 use Rattle.reading.proofs.next.Statement.{statement}
 use Rattle.reading.proofs.next.Tie as tie
@@ -55,23 +55,17 @@ enum-told c = search needs
 returns-2 : tie.Need-returns-2
 returns-2 c = none-off (c .before .before .before .before .before .before .before .before .before .before .before .before .before .before .pre .2) (c .before .before .before .before .before .before .before .before .before .before .before .before .before .before .pre .0) refl refl (c .before .before .before .before .before .before .before .before .wide .ensures) (c .before .before .before .before .before .before .if1 .left) (c .before .before .walk .ensures) (c .enum-told .given .1)
 
-add-if2 : tie.Need-add-if2
-add-if2 c = omega (arith, size-told (c .before .before .before .before .before .before .before .before .before .before .before .before .before .before .before .before .pre .2) (c .before .before .before .before .before .before .before .before .before .before .before .before .before .before .before .before .pre .0) refl refl (c .before .before .before .before .before .before .before .before .before .before .wide .ensures) (c .before .before .before .before .before .before .before .before .if1 .left) (c .before .before .before .before .walk .ensures) (c .before .before .rows .given .1), c .before .before .before .before .before .before .before .before .before .before .before .before .before .before .before .shared-slice-known .given (c .before .before .before .before .before .before .before .before .before .before .before .before .before .before .before .before .args .s .instruction * 16 + 1), c .before .before .before .before .before .before .before .before .before .before .before .before .before .before .before .before .pre .2 .at-most)
-
-returns-3 : tie.Need-returns-3
-returns-3 c = long-off (c .before .before .before .before .before .before .before .before .before .before .before .before .before .before .before .before .before .pre .2) (c .before .before .before .before .before .before .before .before .before .before .before .before .before .before .before .before .before .pre .0) refl refl (c .before .before .before .before .before .before .before .before .before .before .before .wide .ensures) (c .before .before .before .before .before .before .before .before .before .if1 .left) (c .before .before .before .before .before .walk .ensures) (c .before .before .before .rows .given .1) (c .if2 .taken)
-
-add-t13 : tie.Need-add-t13
-add-t13 c = search needs
+add-t12 : tie.Need-add-t12
+add-t12 c = omega (arith, near (c .before .before .before .before .before .before .before .before .before .before .before .before .before .before .before .before .pre .2) (c .before .before .before .before .before .before .before .before .before .before .before .before .before .before .before .before .pre .0) refl refl (c .before .before .before .before .before .before .before .before .before .before .wide .ensures) (c .before .before .before .before .before .before .before .before .if1 .left) (c .before .before .before .before .walk .ensures) (c .before .before .rows .given .1) (λ j. omega (arith, c .before .before .before .before .before .before .before .before .before .before .before .before .before .before .before .shared-slice-known .given j)))
 
 add-t11 : tie.Need-add-t11
-add-t11 c = omega (arith, c .before .before .before .before .before .before .before .before .before .before .before .before .before .before .before .before .before .before .before .pre .0, c .before .before .before .before .before .before .before .before .before .before .before .before .before .before .before .before .before .before .before .good)
+add-t11 c = search needs
 
-add-t12 : tie.Need-add-t12
-add-t12 c = omega (arith, rows-fit (c .before .before .before .before .before .before .before .before .before .before .before .before .before .before .before .before .before .before .before .before .pre .2) (c .before .before .before .before .before .before .before .before .before .before .before .before .before .before .before .before .before .before .before .before .pre .0) refl refl (c .before .before .before .before .before .before .before .before .before .before .before .before .before .before .wide .ensures) (c .before .before .before .before .before .before .before .before .before .before .before .before .if1 .left) (c .before .before .before .before .before .before .before .before .walk .ensures) (c .before .before .before .before .before .before .rows .given .1), c .before .before .before .before .before .before .before .before .before .before .before .before .before .before .before .before .before .before .before .before .good)
+add-t13 : tie.Need-add-t13
+add-t13 c = omega (arith, rows-fit (c .before .before .before .before .before .before .before .before .before .before .before .before .before .before .before .before .before .before .pre .2) (c .before .before .before .before .before .before .before .before .before .before .before .before .before .before .before .before .before .before .pre .0) refl refl (c .before .before .before .before .before .before .before .before .before .before .before .before .wide .ensures) (c .before .before .before .before .before .before .before .before .before .before .if1 .left) (c .before .before .before .before .before .before .walk .ensures) (c .before .before .before .before .rows .given .1), c .before .before .before .before .before .before .before .before .before .before .before .before .before .before .before .before .before .before .good)
 
-returns-4 : tie.Need-returns-4
-returns-4 c = on refl (walked-past (c .before .before .before .before .before .before .before .before .before .before .before .before .before .before .before .before .before .before .before .before .pre .2) (c .before .before .before .before .before .before .before .before .before .before .before .before .before .before .before .before .before .before .before .before .pre .0) refl refl (c .before .before .before .before .before .before .before .before .before .before .before .before .before .before .wide .ensures) (c .before .before .before .before .before .before .before .before .before .before .before .before .if1 .left) (c .before .before .before .before .before .before .before .before .walk .ensures) (c .before .before .before .before .before .before .rows .given .1) (c .before .before .before .if2 .left))
+returns-3 : tie.Need-returns-3
+returns-3 c = on refl (walked-past (c .before .before .before .before .before .before .before .before .before .before .before .before .before .before .before .before .before .before .pre .2) (c .before .before .before .before .before .before .before .before .before .before .before .before .before .before .before .before .before .before .pre .0) refl refl (c .before .before .before .before .before .before .before .before .before .before .before .before .wide .ensures) (c .before .before .before .before .before .before .before .before .before .before .if1 .left) (c .before .before .before .before .before .before .walk .ensures) (c .before .before .before .before .rows .given .1) (λ j. omega (arith, c .before .before .before .before .before .before .before .before .before .before .before .before .before .before .before .before .before .shared-slice-known .given j)))
 
 pub next-spec : {M : Type 1} → statement M
 next-spec =
@@ -93,9 +87,7 @@ next-spec =
     enum-known-rows
     enum-told
     returns-2
-    add-if2
-    returns-3
-    add-t13
-    add-t11
     add-t12
-    returns-4)
+    add-t11
+    add-t13
+    returns-3)

@@ -4,7 +4,7 @@ use native.Mathlib.Omega.{arith}
 use borrow.Author.Needs.{needs}
 use Rattle.reading.specs.Confirm.{confirmAll}
 use Rattle.reading.specs.Walks.{dwordsFrom, Walking}
-use Rattle.reading.proofs.Walks.{begin, from-here, step-whole, walk-whole, went-on, went-off, rows-left, words-left, all-told}
+use Rattle.reading.proofs.Walks.{begin, from-here, step-whole, walk-whole, went-on, went-off, limit-past, rows-left, words-left, all-told}
 use Rattle.reading.proofs.walk_all.Statement.{statement}
 use Rattle.reading.proofs.walk_all.Tie as tie
 
@@ -41,17 +41,20 @@ enum-told c = search needs
 returns : tie.Need-returns Inv-loop μ-loop
 returns c = went-off (step-whole (c .before .before .before .before .before .loop .inv) (c .before .before .next .ensures)) (c .enum-told .given .1)
 
-mul-if2 : tie.Need-mul-if2 Inv-loop μ-loop
-mul-if2 c = omega (arith, c .before .before .before .loop .inv .row-within, c .before .before .before .before .before .before .before .before .good)
-
 returns-2 : tie.Need-returns-2 Inv-loop μ-loop
-returns-2 c = rows-left (c .before .before .before .before .loop .inv) (omega (arith, c .before .before .if1 .left)) (omega (arith, c .if2 .taken))
+returns-2 c = limit-past (c .before .before .before .before .loop .inv) (omega (arith, c .if2 .taken))
+
+mul-if3 : tie.Need-mul-if3 Inv-loop μ-loop
+mul-if3 c = omega (arith, c .before .before .before .before .before .loop .inv .row-within, c .before .before .before .before .before .before .before .before .before .before .good)
 
 returns-3 : tie.Need-returns-3 Inv-loop μ-loop
-returns-3 c = words-left (c .before .before .before .before .before .before .loop .inv) (omega (arith, c .before .before .before .before .if1 .left)) (omega (arith, c .before .before .if2 .left)) (omega (arith, c .if3 .taken))
+returns-3 c = rows-left (c .before .before .before .before .before .before .loop .inv) (omega (arith, c .before .before .before .before .if1 .left)) (omega (arith, c .if3 .taken))
 
 returns-4 : tie.Need-returns-4 Inv-loop μ-loop
-returns-4 c = all-told (c .before .before .before .before .before .before .loop .inv) (omega (arith, c .before .before .before .before .if1 .left)) (omega (arith, c .before .before .if2 .left)) (omega (arith, c .if3 .left))
+returns-4 c = words-left (c .before .before .before .before .before .before .before .before .loop .inv) (omega (arith, c .before .before .before .before .before .before .if1 .left)) (omega (arith, c .before .before .if3 .left)) (omega (arith, c .if4 .taken))
+
+returns-5 : tie.Need-returns-5 Inv-loop μ-loop
+returns-5 c = all-told (c .before .before .before .before .before .before .before .before .loop .inv) (omega (arith, c .before .before .before .before .before .before .if1 .left)) (omega (arith, c .before .before .if3 .left)) (omega (arith, c .before .before .before .before .if2 .left)) (omega (arith, c .if4 .left))
 
 pub walk-all-spec : {M : Type 1} → statement M
 walk-all-spec =
@@ -68,7 +71,8 @@ walk-all-spec =
     loop-again
     enum-told
     returns
-    mul-if2
     returns-2
+    mul-if3
     returns-3
-    returns-4)
+    returns-4
+    returns-5)

@@ -1,9 +1,0 @@
-use Rattle.instruction.proofs.Tokens.{has-test}
-use Rattle.instruction.proofs.tests.Statement.{statement}
-use Rattle.instruction.proofs.tests.Tie as tie
-
-returns : tie.Need-returns
-returns c = has-test _
-
-pub tests-spec : {M : Type 1} → statement M
-tests-spec = tie.close (tie.spec returns)

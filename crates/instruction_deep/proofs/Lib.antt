@@ -1,0 +1,14 @@
+pub mod Layouts
+pub mod Taken
+pub mod Fits
+pub mod Sound
+pub mod Complete
+pub mod Items
+pub mod Passing
+pub mod Runs
+pub mod Deciding
+pub mod Chains
+pub mod Heads
+pub mod Tokens
+pub mod SameRows
+pub mod Ways
