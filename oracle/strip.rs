@@ -10,12 +10,14 @@ use std::fs;
 
 /// The crates that `shex` is made of, leaves first: the reader's, and the encoder's and the calls on rows, which it has beside it and the
 /// copies do not call.
-const CRATES: [&str; 24] = [
+const CRATES: [&str; 26] = [
     "format",
     "tokens",
     "layouts",
     "operand",
+    "operand_rows",
     "operand_write",
+    "framing",
     "header",
     "instruction_fields",
     "instruction",

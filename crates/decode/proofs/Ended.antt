@@ -24,7 +24,7 @@ use Rattle.header.specs.Header.{hasRoom}
 use Rattle.stream.specs.declared.Measured.the-variants.{Fine, Refused as Stopped}
 use Rattle.stream.specs.Stream.{passes, measured}
 use Rattle.stream.proofs.Outcomes.{refused-body, fine-body}
-use Rattle.operand_write.proofs.Lists.{over-front}
+use Rattle.operand_rows.proofs.Lists.{over-front}
 use Rattle.stream_write.specs.declared.Mark.{Mark}
 use Rattle.stream_write.specs.Writing.{start, stream, rest, Writing, Left}
 use Rattle.decode.specs.Decode.{Entered, Ends}

@@ -11,9 +11,10 @@ ghost use Rattle.format.specs.Framing as f;
 ghost use Rattle.format.specs.Refusals as h;
 ghost use Rattle.header.specs.Header.{versionOf, headerOf, hasRoom};
 use format::Refusal;
+use framing::one_of;
+use framing::sized;
 use tokens::dword;
 use tokens::dwords;
-use tokens::follows;
 
 // The letters SHEX and SHDR, the first lowest.
 const SHEX: u32 = 0x5845_4853;
@@ -24,13 +25,6 @@ const SHDR: u32 = 0x5244_4853;
 pub enum Checked {
     Passed { version: u32 },
     Refused(Refusal),
-}
-
-// Whether a number is one of two.
-fn one_of(x: u32, a: u32, b: u32) -> bool
-    ensures { λ r. ⌜ r ≡ within x (a ∷ b ∷ []) ⌝ }
-{
-    x == a || x == b
 }
 
 // Whether a FourCC is SHEX or SHDR.
@@ -154,30 +148,6 @@ pub fn ceiling(edition: u32) -> u32
         3 => 2048,
         _ => 0,
     }
-}
-
-// A token's code.
-fn code(t: u32) -> u32
-    ensures { λ r. ⌜ r ≡ f.code t ⌝ }
-{
-    t % 2048
-}
-
-// The long form of 145 and 146.
-pub fn long(t: u32) -> bool
-    ensures { λ r. ⌜ r ≡ f.long t ⌝ }
-{
-    one_of(code(t), 145, 146) && follows(t)
-}
-
-// Whether the next dword is the length. Most codes are below 145, and need one comparison more.
-pub fn sized(t: u32) -> bool
-    ensures { λ r. ⌜ r ≡ f.sized t ⌝ }
-{
-    if code(t) < 145 {
-        return code(t) == 53;
-    }
-    long(t)
 }
 
 // The length in dwords of the instruction at a place; 0 where the dword that has it is missing.

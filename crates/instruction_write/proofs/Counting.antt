@@ -22,7 +22,7 @@ use Rattle.tokens.specs.declared.Skip.{Skip}
 use Rattle.tokens.specs.declared.Skip.the-variants.{To, Off}
 use Rattle.instruction_fields.proofs.Heads.{Headed, headed-at}
 use Rattle.instruction_fields.proofs.Counted.{chain-head}
-use Rattle.operand_write.specs.declared.Sums.{Sums}
+use Rattle.operand_rows.specs.declared.Sums.{Sums}
 use Rattle.instruction_write.specs.Writes.{countedShape, countedItems, operandsOf, rowFor, RowReady, Room, WroteRun, BodyRoom, WroteBody, Ready, Written}
 use Rattle.instruction_write.specs.declared.Sizes.{Sizes}
 use Rattle.instruction_write.proofs.Parted.{then-same, run-room, Known, known, copy-room, written}

@@ -16,10 +16,10 @@ use Rattle.format.specs.Rows.{treeRows, treeWords, treeTable, partsRows, partsW
 use Rattle.format.proofs.Dwords.{impossible, All, unmet, met}
 use Rattle.format.proofs.Operands.{makes-operand}
 use Rattle.format.proofs.Rows.{table-length, parts-length, rows-append, words-append, table-append, tree-fits}
-use Rattle.operand_write.specs.Writes.{Over}
+use Rattle.operand_rows.specs.Writes.{Over}
+use Rattle.operand_rows.specs.declared.Sums.{Sums}
+use Rattle.operand_rows.proofs.Lists.{lent-length, back, over-none, over-more, over-front, over-length}
 use Rattle.operand_write.specs.Writes as ow
-use Rattle.operand_write.specs.declared.Sums.{Sums}
-use Rattle.operand_write.proofs.Lists.{lent-length, back, over-none, over-more, over-front, over-length}
 use Rattle.instruction_write.specs.Writes.{operandsOf, Room, Put, WroteRun}
 
 pub all-got : {A : Type 0} {P : A → List ℕ → Type 0} {g : Got A} {a : A} {r : List ℕ} → All P g → g ≡ got a r → P a r

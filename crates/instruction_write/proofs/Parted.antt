@@ -21,9 +21,9 @@ use Rattle.format.proofs.Rows.{rows-append, words-append, table-append}
 use Rattle.layouts.specs.declared.Shape.{Shape}
 use Rattle.layouts.specs.Shapes.{itemsOf, listed, tailed}
 use Rattle.instruction_fields.specs.Fields.{rest}
-use Rattle.operand_write.specs.Writes.{Over}
-use Rattle.operand_write.specs.declared.Sums.{Sums}
-use Rattle.operand_write.proofs.Lists.{lent-length, back, over-more, over-front, over-length}
+use Rattle.operand_rows.specs.Writes.{Over}
+use Rattle.operand_rows.specs.declared.Sums.{Sums}
+use Rattle.operand_rows.proofs.Lists.{lent-length, back, over-more, over-front, over-length}
 use Rattle.tokens.proofs.Places.{left-at, read-within}
 use Rattle.instruction_write.specs.Writes.{operandsOf, Room, Put, WroteRun, BodyRoom, WroteBody}
 use Rattle.instruction_write.specs.declared.Sizes.{Sizes}

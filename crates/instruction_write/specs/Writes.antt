@@ -18,7 +18,7 @@ use Rattle.layouts.specs.declared.Shape.{Shape}
 use Rattle.layouts.specs.Shapes.{Sound, Laid, meant, itemsOf}
 use Rattle.layouts.specs.Table.{plainShape, widthOf}
 use Rattle.instruction_fields.specs.Fields.{plainToken}
-use Rattle.operand_write.specs.declared.Sums.{Sums}
+use Rattle.operand_rows.specs.declared.Sums.{Sums}
 use Rattle.instruction_write.specs.declared.Row.{Row}
 use Rattle.instruction_write.specs.declared.Sizes.{Sizes}
 

@@ -1,6 +1,5 @@
 -- What walking over rows and words answers.
-use Prim.Native.Nat.{ℕ, suc, _+_, _-_, _*_, _/_, _^_, _<_, _≤_}
-use mathlib.Core.Path.{_≡_}
+use Prim.Native.Nat.{ℕ, _+_, _*_}
 use mathlib.Core.Bool.{cond, _&&_}
 use mathlib.Core.List.{List, [], _∷_}
 use mathlib.Core.Option.{Option, none as nothing, some as just}
@@ -8,8 +7,7 @@ use lib.ListN.{length, getD, take, drop}
 use lib.Dec.{eqb, ltb}
 use Rattle.format.specs.Operands.{Tree, typeOf, form, selection, dimension, reprs, repr, dwords, exactDword, exactExtension}
 use Rattle.format.specs.Rows.{placed, wordPlace, childRow, treeRows, treeWords}
-use Rattle.format.specs.Encoder.{at, extensionOf}
-use Rattle.operand_deep.specs.Confirm.{Confirmer, confirm}
+use Rattle.operand_deep.specs.Confirm.{Confirmer}
 use Rattle.operand_deep.specs.declared.Place.{Place}
 use Rattle.operand_deep.specs.declared.Walked.{Walked}
 use Rattle.operand_deep.specs.declared.Walked.the-variants.{Is, Not}

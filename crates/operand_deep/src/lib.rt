@@ -1,8 +1,7 @@
-// Walks operand rows and words that anybody may have written, and tells whether they are those of an operand.
+// Walks operand rows and words that anybody may have written, the general way, and tells whether they are those of an operand.
 ghost use mathlib.Core.Path.{_≡_};
-ghost use mathlib.Core.Bool.{true};
 ghost use mathlib.Core.List.{[], _∷_};
-ghost use Prim.Native.Nat.{_+_, _-_, _*_, _/_, _^_, _<_, _≤_};
+ghost use Prim.Native.Nat.{_+_, _-_, _*_, _^_, _<_, _≤_};
 ghost use lib.ListN.{length, getD, take, drop};
 ghost use lib.Dec.{ltb};
 ghost use Rattle.format.specs.Operands as op;

@@ -1,4 +1,2 @@
-pub mod Lists
-pub mod Copies
 pub mod Readings
 pub mod Writing

@@ -8,7 +8,7 @@ use lib.ListN.{length, getD, take, drop}
 use lib.Seq.{slice, slice-empty}
 use lib.Dec.{ltb, eqb}
 use borrow.Author.Tests.{ltb-true, ltb-false, eqb-true, eq-eqb}
-use Rattle.format.specs.Dwords.{follows, Got, malformed, got, Reader, then, give, some, chain}
+use Rattle.format.specs.Dwords.{follows, Got, malformed, got, Reader, then, give, chain}
 use Rattle.format.specs.Operands.{Tree, none, plain, node, immediate, immediates, dimension, repr, own, nests, known, readIndex, readImmediates, readIndices, operand, dwords, modifiers}
 use Rattle.format.proofs.Dwords.{met, Makes, impossible}
 use Rattle.tokens.specs.Chains.{ends}

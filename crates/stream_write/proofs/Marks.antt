@@ -21,8 +21,8 @@ use Rattle.format.proofs.Dwords.{impossible}
 use Rattle.format.proofs.Instructions.{kept-ok, read-restores}
 use Rattle.format.proofs.Rows.{row-length, rows-append, words-append, table-append, parts-length, instruction-fits}
 use Rattle.stream.proofs.Frames.{part-dwords, frame-end, frame-zero, frame-past, frame-next}
-use Rattle.operand_write.specs.Writes.{Over}
-use Rattle.operand_write.proofs.Lists.{back, over-none, over-more, over-length}
+use Rattle.operand_rows.specs.Writes.{Over}
+use Rattle.operand_rows.proofs.Lists.{back, over-none, over-more, over-length}
 use Rattle.instruction_write.specs.declared.Sizes.{Sizes}
 use Rattle.instruction_write.specs.Writes.{Ready, Stored}
 use Rattle.stream_write.specs.declared.Mark.{Mark}

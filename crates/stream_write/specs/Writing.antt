@@ -4,7 +4,7 @@ use Rattle.format.specs.Framing.{Framed, frame}
 use Rattle.format.specs.Instructions.{Instruction}
 use Rattle.format.specs.Rows.{instructionRows, partsRows, partsWords, partsTable, allParts}
 use Rattle.format.specs.Refusals.{firstPass, secondPass, readings}
-use Rattle.operand_write.specs.Writes.{Over}
+use Rattle.operand_rows.specs.Writes.{Over}
 use Rattle.stream_write.specs.declared.Mark.{Mark}
 
 -- past the header

@@ -3,7 +3,7 @@ use native.Mathlib.Omega.{arith}
 use borrow.Author.Tests.{not-true, not-false}
 use borrow.Author.Needs.{needs}
 use Rattle.format.specs.Dwords.{dwordsOf}
-use Rattle.header.proofs.Lengths.{by-seven-bits, by-next, no-next}
+use Rattle.framing.proofs.Lengths.{by-seven-bits, by-next, no-next}
 use Rattle.header.proofs.instruction_length.Statement.{statement}
 use Rattle.header.proofs.instruction_length.Tie as tie
 

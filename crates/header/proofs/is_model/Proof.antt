@@ -1,5 +1,5 @@
 use borrow.Author.Needs.{needs}
-use Rattle.header.proofs.Tests.{and-first, and-second}
+use Rattle.framing.proofs.Tests.{and-first, and-second}
 use Rattle.header.proofs.is_model.Statement.{statement}
 use Rattle.header.proofs.is_model.Tie as tie
 

@@ -4,7 +4,7 @@ use lib.Dec.{eqb}
 use borrow.Author.Tests.{eq-eqb, ne-eqb}
 use borrow.Author.Needs.{needs}
 use Rattle.format.specs.Refusals.{isModel51}
-use Rattle.header.proofs.Tests.{and-first, and-second}
+use Rattle.framing.proofs.Tests.{and-first, and-second}
 use Rattle.header.proofs.is_model51.Statement.{statement}
 use Rattle.header.proofs.is_model51.Tie as tie
 

@@ -1,6 +1,6 @@
 use mathlib.Core.Path.{refl, sym, _∙_}
 use borrow.Author.Tests.{not-true, not-false}
-use Rattle.header.proofs.Lengths.{by-seven-bits, by-next, no-next}
+use Rattle.framing.proofs.Lengths.{by-seven-bits, by-next, no-next}
 use borrow.Author.Needs.{needs}
 use Rattle.instruction_deep.proofs.own_size.Statement.{statement}
 use Rattle.instruction_deep.proofs.own_size.Tie as tie

@@ -18,11 +18,11 @@ use Rattle.operand_write.proofs.+deep+index+tree.Lts-index as index-lts
 use Rattle.operand_write.proofs.tree.Reads as tree
 use Rattle.operand_write.proofs.tree.Kinds as tree-kinds
 use Rattle.operand_write.proofs.+deep+index+tree.Lts-tree as tree-lts
-use Rattle.operand_write.proofs.flat.Reads as flat-reads
-use Rattle.operand_write.proofs.leaf.Reads as leaf-reads
-use Rattle.operand_write.proofs.make_row.Reads as make-row-reads
-use Rattle.operand_write.proofs.own_words.Reads as own-words-reads
-use Rattle.operand_write.proofs.put_row.Reads as put-row-reads
+use Rattle.operand_rows.proofs.flat.Reads as flat-reads
+use Rattle.operand_rows.proofs.leaf.Reads as leaf-reads
+use Rattle.operand_rows.proofs.make_row.Reads as make-row-reads
+use Rattle.operand_rows.proofs.own_words.Reads as own-words-reads
+use Rattle.operand_rows.proofs.put_row.Reads as put-row-reads
 use Rattle.tokens.proofs.chain.Reads as chain-reads
 use Rattle.tokens.proofs.dword.Reads as dword-reads
 use Rattle.tokens.proofs.follows.Reads as follows-reads

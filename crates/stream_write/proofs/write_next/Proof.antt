@@ -4,7 +4,7 @@ use Rattle.format.specs.Instructions.{read}
 use native.Mathlib.Omega.{arith}
 use Rattle.format.specs.Dwords.{dwordsOf}
 use Rattle.format.proofs.Dwords.{length-dwords}
-use Rattle.operand_write.proofs.Lists.{lent-length}
+use Rattle.operand_rows.proofs.Lists.{lent-length}
 use Rattle.stream.proofs.Frames.{part-dwords}
 use Rattle.stream_write.proofs.Marks.{ahead, ready, one-fits, toward, moved}
 use borrow.Author.Needs.{needs}
