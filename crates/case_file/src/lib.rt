@@ -3,6 +3,7 @@
 // a whole dword, the entries of the three pools that an accepted chunk uses, and the questions, of 9 dwords each.
 ghost use mathlib.Core.Path.{_≡_};
 ghost use lib.ListN.{length};
+ghost use Rattle.case_file.specs.Heads as h;
 use format::Answer;
 use format::Refusal;
 
@@ -66,7 +67,9 @@ pub fn no_entries() -> [u32; 4096]
 }
 
 // The dword at a place, or 0 past the end.
-pub fn at(part: &[u8], k: usize) -> u32 {
+pub fn at(part: &[u8], k: usize) -> u32
+    ensures { λ r. ⌜ r ≡ h.dwordAt (now (part .entry)) k ⌝ }
+{
     if k < tokens::dwords(part) {
         return tokens::dword(part, k);
     }
@@ -82,7 +85,9 @@ pub fn read_front(fd: i32, buffer: &mut [u8], n: usize) -> bool {
 }
 
 // A pool of a case with this number: refusals 11 to 14 clear all that is lent.
-fn pool_of(number: u32, lent: usize, used: usize, before: u32) -> Pool {
+fn pool_of(number: u32, lent: usize, used: usize, before: u32) -> Pool
+    ensures { λ r. ⌜ r ≡ h.poolOf number lent used before ⌝ }
+{
     let mut cleared = 0;
     if 10 < number {
         cleared = lent;
@@ -96,7 +101,9 @@ fn pool_of(number: u32, lent: usize, used: usize, before: u32) -> Pool {
 }
 
 // The instruction pool of a case.
-pub fn instructions_of(head: &[u8]) -> Pool {
+pub fn instructions_of(head: &[u8]) -> Pool
+    ensures { λ r. ⌜ r ≡ h.instructionPool (now (head .entry)) ⌝ }
+{
     let used = wide(at(head, INSTRUCTIONS)) * 16;
     pool_of(
         at(head, NUMBER),
@@ -107,7 +114,9 @@ pub fn instructions_of(head: &[u8]) -> Pool {
 }
 
 // The operand pool of a case. What it holds before is far from what the other pools hold.
-pub fn operands_of(head: &[u8]) -> Pool {
+pub fn operands_of(head: &[u8]) -> Pool
+    ensures { λ r. ⌜ r ≡ h.operandPool (now (head .entry)) ⌝ }
+{
     let used = wide(at(head, OPERANDS)) * 16;
     let before = std::num::wrapping_add_u32(at(head, BEFORE), 0x1_0000);
     pool_of(
@@ -119,7 +128,9 @@ pub fn operands_of(head: &[u8]) -> Pool {
 }
 
 // The word pool of a case.
-pub fn words_of(head: &[u8]) -> Pool {
+pub fn words_of(head: &[u8]) -> Pool
+    ensures { λ r. ⌜ r ≡ h.wordPool (now (head .entry)) ⌝ }
+{
     let used = wide(at(head, WORDS));
     let before = std::num::wrapping_add_u32(at(head, BEFORE), 0x2_0000);
     pool_of(at(head, NUMBER), wide(at(head, LENT_WORDS)), used, before)
