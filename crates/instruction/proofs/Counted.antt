@@ -1,13 +1,11 @@
 -- Instructions whose code has an operand count: their parts, and what measuring answers.
-use Prim.Native.Nat.{ℕ, zero, suc, _+_, _-_, _^_, _<_}
+use Prim.Native.Nat.{ℕ, zero, suc, _+_, _-_, _<_}
 use mathlib.Core.Path.{_≡_, refl, sym, ap, _∙_}
 use mathlib.Core.List.{List, [], _∷_}
 use mathlib.Core.Bool.{Bool, true, false, _&&_}
 use mathlib.Core.Option.{some}
 use native.Mathlib.Omega.{arith}
 use lib.ListN.{length, getD, drop, length-append, length-replicate}
-use lib.Seq.{slice}
-use Rattle.format.specs.Dwords.{follows, chain}
 use Rattle.format.specs.Framing.{code}
 use Rattle.format.specs.Counts.{operandCount}
 use Rattle.format.specs.Declarations.{tail, Layout, layout}
@@ -16,15 +14,13 @@ use Rattle.format.proofs.Dwords.{impossible}
 use Rattle.instruction.specs.declared.Operands.{Operands}
 use Rattle.instruction.specs.declared.Operands.the-variants.{Read, Lost}
 use Rattle.instruction.specs.declared.Body.the-variants.{Read as BodyRead, Off as BodyOff}
-use Rattle.instruction_fields.specs.Fields.{off, sum, add, sumOf, headed, plainToken}
-use Rattle.instruction.specs.Measure.{bodyOf, Run, ran, lost, verdict, Judged}
+use Rattle.instruction_fields.specs.Fields.{off, sum, add, sumOf}
+use Rattle.instruction.specs.Measure.{bodyOf, Run, ran, lost, verdict, Judged, Begins}
 use Rattle.instruction.specs.declared.Verdict.the-variants.{Fine, Miscounted, Inexact}
-use Rattle.tokens.specs.Chains.{ends}
-use Rattle.tokens.specs.declared.Skip.{Skip}
-use Rattle.tokens.specs.declared.Skip.the-variants.{To}
 use Rattle.instruction_fields.proofs.Rests.{tail-ends}
 use Rattle.instruction.proofs.Verdicts.{parts-off, parts-inexact, all-fine, count-above}
-use Rattle.instruction_fields.proofs.Counted.{laid, items, unfollowed, plain-headed, begins}
+use Rattle.instruction_fields.proofs.Counted.{laid, items}
+use Rattle.instruction_fields.proofs.Heads.{Headed, headed-at}
 
 module _ (t n : ℕ) (h : operandCount (code t) ≡ some n) where
   -- its parts: operands and a tail
@@ -48,52 +44,33 @@ module _ (t n : ℕ) (h : operandCount (code t) ≡ some n) where
       and-true true = refl
       and-true false = refl
 
--- ---- the code's way through a counted instruction
-module _ (ds : List ℕ) (t n : ℕ) (some-there : 0 < length ds) (et : t ≡ getD ds 0 0) (h : operandCount (code t) ≡ some n) {f : Bool} (ef : f ≡ follows t) {a : Skip} (ea : a ≡ ends 1 (chain f (drop 1 ds))) where
+-- ---- the code's way through a counted instruction, from the place where its operands begin
+module _ (ds : List ℕ) (t n : ℕ) (some-there : 0 < length ds) (et : t ≡ getD ds 0 0) (h : operandCount (code t) ≡ some n) {at : ℕ} (x : Begins t ds at) where
   abbrev y : Layout
   y = layout (code t)
 
-  module _ {b : ℕ} (e : a ≡ To b) {rows words end : ℕ} {exact : Bool} {q : Operands} (run : Run n ds b q) (k : q ≡ Read rows words end exact) where
-    pub operands-inexact : exact ≡ false → Judged t ds Inexact
-    operands-inexact z m = parts-inexact y m ds t some-there et (begins ds t n some-there et h ef ea e) (kept-parts t n h m ds b run k (length ds) refl) refl z
-
-    module _ (c : Bool) (ec : c ≡ headed y t (slice 1 b ds) (length ds - b)) where
-      pub all-exact : exact ≡ true → c ≡ true → (j : ℕ) → j ≡ length ds → Judged t ds (Fine rows (words + (j - end)))
-      all-exact z w j ej m = all-fine y m ds t some-there et (begins ds t n some-there et h ef ea e) (kept-parts t n h m ds b run k j ej) refl z c ec w
-
--- ---- a plain token: the operands stand behind it
-module _ (ds : List ℕ) (t n : ℕ) (some-there : 0 < length ds) (et : t ≡ getD ds 0 0) (h : operandCount (code t) ≡ some n) (plain : plainToken t ≡ true) (small : t < 2 ^ 32) where
-  no-head : To 1 ≡ ends 1 (chain false (drop 1 ds))
-  unfolding chain
-  no-head = go (drop 1 ds)
-    where
-      go : (l : List ℕ) → To 1 ≡ ends 1 (chain false l)
-      go [] = refl
-      go (x ∷ l) = refl
-
-  ends-token : false ≡ follows t
-  ends-token = sym (unfollowed t n h plain small)
+  pub front : Headed y t ds at
+  front = headed-at y t ds some-there (x .ends) refl
 
   -- with no operand nothing is lost
-  some-lost : (k : ℕ) {q : Operands} → Run k ds 1 q → q ≡ Lost → 0 < k
+  some-lost : (k : ℕ) {q : Operands} → Run k ds at q → q ≡ Lost → 0 < k
   some-lost (suc k) run e = omega arith
   some-lost zero (ran a b k f) e = impossible (cc)
   some-lost zero (lost f) e =
-      let z : sum 0 (length ds - 1) true ≡ off = sym (tail-ends true ds 1 some-there) ∙ f true (tail ∷ []) in
+      let z : sum 0 (length ds - at) true ≡ off = sym (tail-ends true ds at (front .within)) ∙ f true (tail ∷ []) in
       impossible (cc)
 
-  miscounted : 0 < n → Miscounted ≡ verdict (fault (layout (code t)))
+  miscounted : 0 < n → Miscounted ≡ verdict (fault y)
   miscounted l =
-      let k : n + 1 ≡ length (layout (code t) .items) = sym (ap length (items (code t) n h) ∙ simp (length-append, length-replicate) (omega arith)) in
-      count-above (layout (code t)) (ap (λ (x : Layout). x .kind) (laid (code t) n h)) (n + 1) k (omega arith)
+      let k : n + 1 ≡ length (y .items) = sym (ap length (items (code t) n h) ∙ simp (length-append, length-replicate) (omega arith)) in
+      count-above y (ap (λ (x : Layout). x .kind) (laid (code t) n h)) (n + 1) k (omega arith)
 
-  pub plain-lost : {q : Operands} → Run n ds 1 q → q ≡ Lost → Judged t ds Miscounted
-  plain-lost run k m =
-      parts-off (layout (code t)) m ds t some-there et (begins ds t n some-there et h ends-token no-head refl) (miscounted (some-lost n run k)) (lost-parts t n h m ds 1 run k) refl
+  pub operands-lost : {q : Operands} → Run n ds at q → q ≡ Lost → Judged t ds Miscounted
+  operands-lost run k m = parts-off y m ds t some-there et front (miscounted (some-lost n run k)) (lost-parts t n h m ds at run k) refl
 
-  module _ {rows words end : ℕ} {exact : Bool} {q : Operands} (run : Run n ds 1 q) (k : q ≡ Read rows words end exact) where
-    pub plain-inexact : exact ≡ false → Judged t ds Inexact
-    plain-inexact z = operands-inexact ds t n some-there et h ends-token no-head refl run k z
+  module _ {rows words end : ℕ} {exact : Bool} {q : Operands} (run : Run n ds at q) (k : q ≡ Read rows words end exact) where
+    pub operands-inexact : exact ≡ false → Judged t ds Inexact
+    operands-inexact z m = parts-inexact y m ds t some-there et front (kept-parts t n h m ds at run k (length ds) refl) refl z
 
-    pub plain-fine : exact ≡ true → (j : ℕ) → j ≡ length ds → Judged t ds (Fine rows (words + (j - end)))
-    plain-fine z j ej = all-exact ds t n some-there et h ends-token no-head refl run k true (plain-headed t n h plain small ds 1 (length ds - 1) (λ z. refl)) z refl j ej
+    pub operands-fine : exact ≡ true → (j : ℕ) → j ≡ length ds → Judged t ds (Fine rows (words + (j - end)))
+    operands-fine z j ej m = all-fine y m ds t some-there et front (kept-parts t n h m ds at run k j ej) refl z true (x .exact) refl

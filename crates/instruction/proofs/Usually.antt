@@ -198,62 +198,62 @@ surplus-lost g p q = go (measured g) refl (sym q ∙ p)
     go (MeasuredRead r w d e) f k = impossible (cc)
 
 -- ---- the loop: so many operands are passed up to a place, with rows beside their own and dwords that are no words; or the last of them ran off
-pub data Passing (k : ℕ) (ds : List ℕ) (i at more skipped : ℕ) (exact : Bool) : Type 0 where
-  inside : {words : ℕ} → Reading k ds 1 i at (i + more) words exact → words + (i + more) + skipped ≡ at - 1 → Passing k ds i at more skipped exact
-  outside : length ds < at → at ≤ length ds + 5 → i ≤ k → Run k ds 1 Lost → Passing k ds i at more skipped exact
+pub data Passing (k : ℕ) (ds : List ℕ) (from i at more skipped : ℕ) (exact : Bool) : Type 0 where
+  inside : {words : ℕ} → Reading k ds from i at (i + more) words exact → words + (i + more) + skipped ≡ at - from → Passing k ds from i at more skipped exact
+  outside : length ds < at → at ≤ length ds + 5 → i ≤ k → Run k ds from Lost → Passing k ds from i at more skipped exact
 
-pub start : (k : ℕ) (ds : List ℕ) → 0 < length ds → Passing k ds 0 1 0 0 true
-start k ds h = inside (begin k ds 1 h) refl
+pub start : (k : ℕ) (ds : List ℕ) (from : ℕ) → from ≤ length ds → Passing k ds from 0 from 0 0 true
+start k ds from h = inside (begin k ds from h) (omega arith)
 
-module _ {k : ℕ} {ds : List ℕ} {i at more skipped : ℕ} {exact : Bool} where
-  pub bounded : Passing k ds i at more skipped exact → at ≤ length ds + 5
+module _ {k : ℕ} {ds : List ℕ} {from i at more skipped : ℕ} {exact : Bool} where
+  pub bounded : Passing k ds from i at more skipped exact → at ≤ length ds + 5
   bounded (inside q e) = omega (arith, q .within)
   bounded (outside a b c r) = b
 
   -- past the end the operands are lost
-  pub lost-past : Passing k ds i at more skipped exact → i < k → length ds ≤ at → Run k ds 1 Lost
+  pub lost-past : Passing k ds from i at more skipped exact → i < k → length ds ≤ at → Run k ds from Lost
   lost-past (inside q e) h l = stopped q h (operand-end 64 ds at l)
   lost-past (outside a b c r) h l = r
 
-  pub lost-off : Passing k ds i at more skipped exact → length ds < at → Run k ds 1 Lost
+  pub lost-off : Passing k ds from i at more skipped exact → length ds < at → Run k ds from Lost
   lost-off (inside q e) l = absurd (omega (arith, q .within))
   lost-off (outside a b c r) l = r
 
-  pub lost-deep : Passing k ds i at more skipped exact → i < k → operand 64 (drop at ds) ≡ malformed → Run k ds 1 Lost
+  pub lost-deep : Passing k ds from i at more skipped exact → i < k → operand 64 (drop at ds) ≡ malformed → Run k ds from Lost
   lost-deep (inside q e) h z = stopped q h z
   lost-deep (outside a b c r) h z = r
 
   -- a usual operand
-  pub past-usual : Passing k ds i at more skipped exact → i < k → at < length ds → (n : ℕ) → Long ds at n → Passing k ds (i + 1) (at + n) more skipped exact
+  pub past-usual : Passing k ds from i at more skipped exact → i < k → at < length ds → (n : ℕ) → Long ds at n → Passing k ds from (i + 1) (at + n) more skipped exact
   past-usual (outside a b c r) h l n w = absurd (omega arith)
   past-usual (inside {words = words} q e) h l n w = go (ltb (length ds) (at + n)) refl
     where
-      go : (b : Bool) → ltb (length ds) (at + n) ≡ b → Passing k ds (i + 1) (at + n) more skipped exact
+      go : (b : Bool) → ltb (length ds) (at + n) ≡ b → Passing k ds from (i + 1) (at + n) more skipped exact
       go true z = outside (ltb-true _ _ z) (omega (arith, w .few)) (omega arith) (stopped q h (w .off (ltb-true _ _ z)))
       go false z = kept (turn q h (w .fits (ltb-false _ _ z)))
         where
-          kept : Reading k ds 1 (i + 1) (at + n) (i + more + 1) (words + (n - 1)) (exact && true) → Passing k ds (i + 1) (at + n) more skipped exact
+          kept : Reading k ds from (i + 1) (at + n) (i + more + 1) (words + (n - 1)) (exact && true) → Passing k ds from (i + 1) (at + n) more skipped exact
           kept y =
               let a : i + more + 1 ≡ i + 1 + more = omega arith in
               let m : 0 < n = w .some in
               inside (rw (a, and-true exact) at y) (omega (arith, q .begun))
 
   -- another
-  module _ (p : Passing k ds i at more skipped exact) (h : i < k) (l : at < length ds) {m s d : ℕ} {e : Bool} (x : Surpassed (operand 64 (drop at ds)) m s d e) where
+  module _ (p : Passing k ds from i at more skipped exact) (h : i < k) (l : at < length ds) {m s d : ℕ} {e : Bool} (x : Surpassed (operand 64 (drop at ds)) m s d e) where
     pub room : (more + m ≤ length ds) × (skipped + s ≤ length ds) × (at + d ≤ length ds)
     room = go p
       where
-        go : Passing k ds i at more skipped exact → (more + m ≤ length ds) × (skipped + s ≤ length ds) × (at + d ≤ length ds)
+        go : Passing k ds from i at more skipped exact → (more + m ≤ length ds) × (skipped + s ≤ length ds) × (at + d ≤ length ds)
         go (inside q z) =
             let y = fewer ds at l (x .told) in
             let w = some-row (drop at ds) (x .told) in
             (omega (arith, y, w, x .more, x .skipped), omega (arith, y, w, x .more, x .skipped), y .1)
         go (outside a b c r) = absurd (omega arith)
 
-    pub past-other : (f : Bool) → f ≡ (exact && e) → Passing k ds (i + 1) (at + d) (more + m) (skipped + s) f
+    pub past-other : (f : Bool) → f ≡ (exact && e) → Passing k ds from (i + 1) (at + d) (more + m) (skipped + s) f
     past-other f ef = go p
       where
-        go : Passing k ds i at more skipped exact → Passing k ds (i + 1) (at + d) (more + m) (skipped + s) f
+        go : Passing k ds from i at more skipped exact → Passing k ds from (i + 1) (at + d) (more + m) (skipped + s) f
         go (outside a b c r) = absurd (omega arith)
         go (inside {words = words} q z) =
             let w = some-row (drop at ds) (x .told) in
@@ -261,20 +261,20 @@ module _ {k : ℕ} {ds : List ℕ} {i at more skipped : ℕ} {exact : Bool} wher
             inside (rw (a, ← ef) at (turn q h (x .told))) (omega (arith, fewer ds at l (x .told), w, x .more, x .skipped, q .begun))
 
   -- all are passed
-  module _ (p : Passing k ds i at more skipped exact) (h : k ≤ i) (l : at ≤ length ds) where
-    pub counted : (1 ≤ at) × (k + more + skipped ≤ at - 1)
+  module _ (p : Passing k ds from i at more skipped exact) (h : k ≤ i) (l : at ≤ length ds) where
+    pub counted : (from ≤ at) × (k + more + skipped ≤ at - from)
     counted = go p
       where
-        go : Passing k ds i at more skipped exact → (1 ≤ at) × (k + more + skipped ≤ at - 1)
+        go : Passing k ds from i at more skipped exact → (from ≤ at) × (k + more + skipped ≤ at - from)
         go (inside q e) = (q .begun, omega (arith, q .some))
         go (outside a b c s) = absurd (omega arith)
 
-    pub passed : Run k ds 1 (Read (k + more) (at - 1 - (k + more) - skipped) at exact)
+    pub passed : Run k ds from (Read (k + more) (at - from - (k + more) - skipped) at exact)
     passed = go p
       where
-        go : Passing k ds i at more skipped exact → Run k ds 1 (Read (k + more) (at - 1 - (k + more) - skipped) at exact)
+        go : Passing k ds from i at more skipped exact → Run k ds from (Read (k + more) (at - from - (k + more) - skipped) at exact)
         go (outside a b c s) = absurd (omega arith)
         go (inside {words = words} q e) =
             let a : i + more ≡ k + more = omega (arith, q .some) in
-            let b : words ≡ at - 1 - (k + more) - skipped = omega (arith, q .some) in
+            let b : words ≡ at - from - (k + more) - skipped = omega (arith, q .some) in
             rw (a, b) at (finished q h)

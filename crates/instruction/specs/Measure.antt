@@ -1,13 +1,17 @@
 -- What measuring tells of a reading: its rows and words, and whether it is exact.
-use Rattle.format.specs.Basis.{ℕ, _+_, _-_, _≤_, _≡_, List, _++_, Bool, true, length, drop, replicate, _<_}
+use Rattle.format.specs.Basis.{ℕ, _+_, _-_, _≤_, _≡_, List, _++_, Bool, true, some, length, drop, replicate, _<_}
+use lib.Seq.{slice}
 use Rattle.format.specs.Framing.{code}
+use Rattle.format.specs.Counts.{operandCount}
 use Rattle.format.specs.Declarations.{Item, o, layout}
-use Rattle.format.specs.Instructions.{Reading, ok, miscounted, inexact, split, judged}
+use Rattle.format.specs.Instructions.{Reading, ok, miscounted, inexact, readHead, split, judged}
 use Rattle.format.specs.Rows.{partsRows, partsWords, parts}
 use Rattle.layouts.specs.declared.Shape.{Shape}
 use Rattle.operand.specs.declared.Measured.{Measured}
 use Rattle.operand.specs.declared.Measured.the-variants.{Read as MeasuredRead, Malformed}
-use Rattle.instruction_fields.specs.Fields.{Sum, off, sum, add, sumOf}
+use Rattle.instruction_fields.specs.Fields.{Sum, off, sum, add, sumOf, headed}
+use Rattle.tokens.specs.Chains.{ends as endsOf}
+use Rattle.tokens.specs.declared.Skip.the-variants.{To}
 use Rattle.instruction.specs.declared.Operands.{Operands}
 use Rattle.instruction.specs.declared.Operands.the-variants.{Read, Lost}
 use Rattle.instruction.specs.declared.Surplus.{Surplus}
@@ -36,6 +40,15 @@ bodyOf (sum r w e) = BodyRead r w e
 -- what measuring answers of an instruction with the token t, in either model
 abbrev pub Judged : ℕ → List ℕ → Verdict → Type 0
 Judged t ds r = (m : Bool) → r ≡ verdict (judged (layout (code t)) (split m (layout (code t)) ds))
+
+-- what follows the token t before the parts of its instruction ends at a place, and it and the token are exact
+pub record Begins (t : ℕ) (ds : List ℕ) (at : ℕ) : Type 0 where
+  pub ends : To at ≡ endsOf 1 (readHead (layout (code t)) t (drop 1 ds))
+  pub exact : true ≡ headed (layout (code t)) t (slice 1 at ds) (length ds - at)
+
+-- so it is if the code has a count and the place is not 0
+abbrev pub Begun : ℕ → List ℕ → ℕ → Type 0
+Begun t ds at = 0 < at → (n : ℕ) → operandCount (code t) ≡ some n → Begins t ds at
 
 -- an operand that was measured, by what it has beside one row and its words
 abbrev pub surplus : Measured → Surplus

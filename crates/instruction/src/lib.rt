@@ -3,7 +3,7 @@ ghost use mathlib.Core.Path.{_≡_};
 ghost use mathlib.Core.List.{[], _∷_};
 ghost use mathlib.Core.Bool.{Bool, true, not, _&&_};
 ghost use mathlib.Core.Option.{none, some};
-ghost use Prim.Native.Nat.{ℕ, _/_, _^_, _<_, _≤_};
+ghost use Prim.Native.Nat.{ℕ, _/_, _<_, _≤_};
 ghost use lib.ListN.{length, getD, drop};
 ghost use lib.Dec.{eqb};
 ghost use Rattle.format.specs.Dwords.{dwordsOf};
@@ -15,8 +15,8 @@ ghost use Rattle.format.specs.Instructions as ins;
 ghost use Rattle.format.specs.Operands as op;
 ghost use Rattle.operand.specs.Measures.{measured};
 ghost use Rattle.layouts.specs.Shapes.{Sound, Laid, meant, itemsOf};
-ghost use Rattle.instruction_fields.specs.Fields.{sumOf, plainToken, Declared};
-ghost use Rattle.instruction.specs.Measure.{Run, bodyOf, verdict, Judged, surplus, Behind, Quick};
+ghost use Rattle.instruction_fields.specs.Fields.{sumOf, Declared};
+ghost use Rattle.instruction.specs.Measure.{Run, bodyOf, verdict, Judged, Begins, Begun, surplus, Behind, Quick};
 use instruction_fields::Place;
 use instruction_fields::bare;
 use instruction_fields::ends;
@@ -26,6 +26,7 @@ use instruction_fields::head;
 use instruction_fields::item_count;
 use instruction_fields::past_dwords;
 use instruction_fields::plain;
+use instruction_fields::rising;
 use instruction_fields::small_at;
 use instruction_fields::wide;
 use layouts::Shape;
@@ -36,6 +37,7 @@ use layouts::operand_count;
 use layouts::uncounted_layout;
 use operand::Measured;
 use tokens::Skip;
+use tokens::chain;
 use tokens::dimension;
 use tokens::dword;
 use tokens::dwords;
@@ -233,16 +235,16 @@ fn unusual(part: &[u8], at: usize) -> Surplus
     Surplus::Read(rows - 1, d - words - rows, d, exact)
 }
 
-// Measures so many operands that stand behind a token. Most are usual, and are passed by the number of their dwords; the rows and dwords
+// Measures so many operands that stand behind a head. Most are usual, and are passed by the number of their dwords; the rows and dwords
 // that others have beside are counted apart.
-fn plain_operands(part: &[u8], count: u32) -> Operands
-    requires { ⌜ 0 < length (dwordsOf (now part)) ⌝ }
-    ensures { λ r. ⌜ Run count (dwordsOf (now (part .entry))) 1 r ⌝ }
+fn plain_operands(part: &[u8], from: usize, count: u32) -> Operands
+    requires { ⌜ from ≤ length (dwordsOf (now part)) ⌝ }
+    ensures { λ r. ⌜ Run count (dwordsOf (now (part .entry))) from r ⌝ }
 {
     let n = dwords(part);
     let mut more = 0;
     let mut skipped = 0;
-    let mut at = 1;
+    let mut at = from;
     let mut exact = true;
     let mut i = 0;
     while i < count {
@@ -269,15 +271,15 @@ fn plain_operands(part: &[u8], count: u32) -> Operands
     let rows = wide(count) + more;
     Operands::Read {
         rows,
-        words: at - 1 - rows - skipped,
+        words: at - from - rows - skipped,
         end: at,
         exact,
     }
 }
 
-// Measures an instruction of n operands whose token is plain.
-fn measure_plain(part: &[u8], n: u32) -> Verdict
-    requires { ⌜ (0 < length (dwordsOf (now part))) × (operandCount (code (getD (dwordsOf (now part)) 0 0)) ≡ some n) × (plainToken (getD (dwordsOf (now part)) 0 0) ≡ true) × (getD (dwordsOf (now part)) 0 0 < 2 ^ 32) ⌝ }
+// Measures an instruction of n operands that stand from a place on, behind a head that is exact.
+fn measure_plain(part: &[u8], from: usize, n: u32) -> Verdict
+    requires { ⌜ (0 < length (dwordsOf (now part))) × (operandCount (code (getD (dwordsOf (now part)) 0 0)) ≡ some n) × Begins (getD (dwordsOf (now part)) 0 0) (dwordsOf (now part)) from ⌝ }
     ensures { λ r. ⌜ Judged (getD (dwordsOf (now (part .entry))) 0 0) (dwordsOf (now (part .entry))) r ⌝ }
 {
     let Operands::Read {
@@ -285,7 +287,7 @@ fn measure_plain(part: &[u8], n: u32) -> Verdict
         words,
         end,
         exact,
-    } = plain_operands(part, n)
+    } = plain_operands(part, from, n)
     else {
         return Verdict::Miscounted;
     };
@@ -358,6 +360,37 @@ fn measure_uncounted(part: &[u8], t: u32, model51: bool) -> Verdict
     measure_shaped(part, uncounted_layout(t % 2048), t, model51)
 }
 
+// The place behind the chain of a token that is plain but for bit 31, as texture instructions have it, if the chain is exact; 0: it is not
+// such a head.
+fn chained_head(part: &[u8], t: u32) -> usize
+    requires { ⌜ 0 < length (dwordsOf (now part)) ⌝ }
+    ensures { λ r. ⌜ Begun t (dwordsOf (now (part .entry))) r ⌝ }
+{
+    if t < 0x8000_0000 {
+        return 0;
+    }
+    if !plain(t - 0x8000_0000) {
+        return 0;
+    }
+    let Skip::To(end) = chain(part, 1, true) else {
+        return 0;
+    };
+    if rising(part, 1, end) { end } else { 0 }
+}
+
+// The place behind the head of a code with a count, if it is plain or chained and exact; 0: it is left to the general way. Most tokens are
+// plain; the part is lent afresh for the others, which leaves the callers' in registers.
+fn plain_head(part: &[u8], t: u32) -> usize
+    requires { ⌜ 0 < length (dwordsOf (now part)) ⌝ }
+    ensures { λ r. ⌜ Begun t (dwordsOf (now (part .entry))) r ⌝ }
+{
+    if plain(t) {
+        return 1;
+    }
+    let p = &part[0..part.len()];
+    chained_head(p, t)
+}
+
 // Measures an instruction: its own dwords, under a ceiling, in model 5.1 or not.
 pub fn measure(part: &[u8], ceiling: u32, model51: bool) -> Verdict
     requires { ⌜ 0 < length (dwordsOf (now part)) ⌝ }
@@ -373,8 +406,9 @@ pub fn measure(part: &[u8], ceiling: u32, model51: bool) -> Verdict
     }
     let n = operand_count(code);
     if n < 7 {
-        if plain(t) {
-            return measure_plain(part, n);
+        let from = plain_head(part, t);
+        if from > 0 {
+            return measure_plain(part, from, n);
         }
         return measure_shaped(part, counted_layout(code, n), t, model51);
     }

@@ -247,7 +247,7 @@ fn exact_extension(e: u32) -> bool
 }
 
 // Whether the extensions between two places are of types 1, 2, 3, rising, and exact.
-fn rising(part: &[u8], from: usize, to: usize) -> bool
+pub fn rising(part: &[u8], from: usize, to: usize) -> bool
     requires { ⌜ (from ≤ to) × (to ≤ length (dwordsOf (now part))) ⌝ }
     ensures { λ r. ⌜ r ≡ ct.rising 0 (slice from to (dwordsOf (now (part .entry)))) ⌝ }
 {

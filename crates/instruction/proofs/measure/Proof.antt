@@ -1,7 +1,6 @@
--- Unread; counted, with a plain token or not; or uncounted.
+-- Unread; counted, with a head that is told at once or not; or uncounted.
 use borrow.Author.Needs.{needs}
-use mathlib.Core.Path.{sym, _∙_}
-use native.Mathlib.Omega.{arith}
+use mathlib.Core.Path.{_∙_}
 use Rattle.layouts.proofs.Others.{is-counted, is-uncounted}
 use Rattle.instruction.proofs.Verdicts.{verdict-known, verdict-unread-at}
 use Rattle.instruction.proofs.measure.Statement.{statement}
@@ -19,11 +18,11 @@ returns c = verdict-unread-at _ _ _ _ (c .before .before .dword .ensures) _ (c .
 operand-count-requires : tie.Need-operand-count-requires
 operand-count-requires c κs = search needs
 
-plain-requires : tie.Need-plain-requires
-plain-requires c κs = search needs
+plain-head-requires : tie.Need-plain-head-requires
+plain-head-requires c κs = search needs
 
 measure-plain-requires : tie.Need-measure-plain-requires
-measure-plain-requires c κs = (c .before .before .before .before .before .before .before .pre, rw (← (c .before .before .before .before .before .dword .ensures)) (is-counted _ _ (c .before .before .before .operand-count .ensures) (c .before .before .if2 .taken)), rw (← (c .before .before .before .before .before .dword .ensures)) (sym (c .before .plain .ensures) ∙ c .if3 .taken), rw (← (c .before .before .before .before .before .dword .ensures)) (omega (arith, c .before .before .before .before .before .dword .ok)))
+measure-plain-requires c κs = (c .before .before .before .before .before .before .before .pre, rw (← (c .before .before .before .before .before .dword .ensures)) (is-counted _ _ (c .before .before .before .operand-count .ensures) (c .before .before .if2 .taken)), rw (← (c .before .before .before .before .before .dword .ensures)) (c .before .plain-head .ensures (c .if3 .taken) _ (is-counted _ _ (c .before .before .before .operand-count .ensures) (c .before .before .if2 .taken))))
 
 returns-2 : tie.Need-returns-2
 returns-2 c = (rw (← (c .before .before .before .before .before .before .dword .ensures)) at (c .measure-plain .ensures (c .before .before .before .before .before .before .before .before .args .model51))) ∙ verdict-known _ _ _ _ (c .before .before .before .before .before .before .dword .ensures) (c .before .before .before .before .before .if1 .left)
@@ -51,7 +50,7 @@ measure-spec =
     dwords-requires
     returns
     operand-count-requires
-    plain-requires
+    plain-head-requires
     measure-plain-requires
     returns-2
     counted-layout-requires

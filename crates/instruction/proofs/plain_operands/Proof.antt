@@ -12,16 +12,16 @@ use Rattle.instruction.proofs.plain_operands.Statement.{statement}
 use Rattle.instruction.proofs.plain_operands.Tie as tie
 
 abbrev Inv-loop : tie.InvT-loop
-Inv-loop part count n more₀ skipped₀ at₀ exact₀ i₀ more skipped at exact i = Passing count (dwordsOf part) i at more skipped exact
+Inv-loop part from count n more₀ skipped₀ at₀ exact₀ i₀ more skipped at exact i = Passing count (dwordsOf part) from i at more skipped exact
 
 abbrev μ-loop : tie.MeasureT-loop
-μ-loop part count n more₀ skipped₀ at₀ exact₀ i₀ more skipped at exact i = count - i
+μ-loop part from count n more₀ skipped₀ at₀ exact₀ i₀ more skipped at exact i = count - i
 
 dwords-requires : tie.Need-dwords-requires Inv-loop μ-loop
 dwords-requires c κs = search needs
 
 loop-holds : tie.Need-loop-holds Inv-loop μ-loop
-loop-holds c = start _ _ (c .before .before .pre)
+loop-holds c = start _ _ _ (c .before .before .pre)
 
 returns : tie.Need-returns Inv-loop μ-loop
 returns c = lost-past (c .before .before .loop .inv) (c .before .loop-test .taken) (omega (arith, c .before .before .before .dwords .ensures, c .if1 .taken))
@@ -77,14 +77,14 @@ wide-requires c κs = search needs
 add-rows : tie.Need-add-rows Inv-loop μ-loop
 add-rows c = omega (arith, counted (c .before .before .before .loop .inv) (c .before .before .loop-test .left) (omega (arith, c .before .before .before .before .dwords .ensures, c .before .if3 .left)), c .wide .ensures, c .before .before .before .before .dwords .ensures, c .before .if3 .left, length-dwords (c .before .before .before .before .before .before .args .part .now), c .before .before .before .before .before .before .good)
 
-sub-t19 : tie.Need-sub-t19 Inv-loop μ-loop
-sub-t19 c = omega (arith, counted (c .before .before .before .loop .inv) (c .before .before .loop-test .left) (omega (arith, c .before .before .before .before .dwords .ensures, c .before .if3 .left)), c .wide .ensures)
-
 sub-t20 : tie.Need-sub-t20 Inv-loop μ-loop
 sub-t20 c = omega (arith, counted (c .before .before .before .loop .inv) (c .before .before .loop-test .left) (omega (arith, c .before .before .before .before .dwords .ensures, c .before .if3 .left)), c .wide .ensures)
 
 sub-t21 : tie.Need-sub-t21 Inv-loop μ-loop
 sub-t21 c = omega (arith, counted (c .before .before .before .loop .inv) (c .before .before .loop-test .left) (omega (arith, c .before .before .before .before .dwords .ensures, c .before .if3 .left)), c .wide .ensures)
+
+sub-t22 : tie.Need-sub-t22 Inv-loop μ-loop
+sub-t22 c = omega (arith, counted (c .before .before .before .loop .inv) (c .before .before .loop-test .left) (omega (arith, c .before .before .before .before .dwords .ensures, c .before .if3 .left)), c .wide .ensures)
 
 returns-4 : tie.Need-returns-4 Inv-loop μ-loop
 returns-4 c = rw (c .wide .ensures) (passed (c .before .before .before .loop .inv) (c .before .before .loop-test .left) (omega (arith, c .before .before .before .before .dwords .ensures, c .before .if3 .left)))
@@ -115,7 +115,7 @@ plain-operands-spec =
     returns-3
     wide-requires
     add-rows
-    sub-t19
     sub-t20
     sub-t21
+    sub-t22
     returns-4)
