@@ -1,11 +1,12 @@
 -- The chain that a row tells, in its pool.
-use Prim.Native.Nat.{ℕ, _+_, _-_, _≤_}
+use Prim.Native.Nat.{ℕ, zero, suc, _+_, _-_, _*_, _/_, _%_, _^_, _≤_}
 use mathlib.Core.Path.{_≡_, refl, ap, subst}
-use mathlib.Core.List.{List}
+use mathlib.Core.List.{List, [], _∷_, _++_}
 use mathlib.Core.Bool.{cond}
 use native.Mathlib.Nat.{add-zero}
 use native.Mathlib.Omega.{arith}
-use lib.ListN.{length, getD, take}
+use lib.ListN.{length, getD, take, length-append}
+use lib.Seq.{take-nil}
 use lib.Dec.{eqb, ltb, lit<}
 use Rattle.format.specs.Encoder.{chainOf}
 use Rattle.operand_deep.proofs.Fields.{row-at}
@@ -16,6 +17,19 @@ use Rattle.instruction_walk.specs.Short.{chainIn, Linked}
 use Rattle.instruction_deep.proofs.Deciding.{Told, told}
 use Rattle.instruction_deep.proofs.Items.{lent}
 use Rattle.instruction_deep.proofs.Chains.{chain-fits, bit-is}
+
+-- no chain has more than three dwords, whatever its bits are
+one-at-most : (k x : ℕ) → length (take k (x ∷ [])) ≤ 1
+one-at-most zero x = omega arith
+one-at-most (suc k) x = rw (take-nil {A = ℕ} k) (omega arith)
+
+pub three-at-most : (n u a b : ℕ) → length (chainOf n u a b) ≤ 3
+unfolding chainOf
+three-at-most n u a b =
+    let x : List ℕ = take (n % 2) ((1 + u * 2 ^ 9 + cond (ltb 1 n) (2 ^ 31) 0) ∷ []) in
+    let y : List ℕ = take (n / 2 % 2) ((a + n / 4 * 2 ^ 31) ∷ []) in
+    let z : List ℕ = take (n / 4) (b ∷ []) in
+    omega (arith, length-append (x ++ y) z, length-append x y, one-at-most (n % 2) (1 + u * 2 ^ 9 + cond (ltb 1 n) (2 ^ 31) 0), one-at-most (n / 2 % 2) (a + n / 4 * 2 ^ 31), one-at-most (n / 4) b)
 
 -- words 8 to 11 of the row that begins at i
 module _ (l : List ℕ) (i : ℕ) where

@@ -1,5 +1,5 @@
 -- The short way of a declaration: a row with nothing but a field needs no other token, and its operand stands alone.
-use Prim.Native.Nat.{ℕ, _+_, _-_, _*_, _/_, _^_, _<_, _≤_}
+use Prim.Native.Nat.{ℕ, _+_, _-_, _*_, _/_, _%_, _^_, _<_, _≤_}
 use mathlib.Core.Path.{_≡_, refl, sym, ap, _∙_, subst}
 use mathlib.Core.List.{List, [], _∷_, map}
 use mathlib.Core.Bool.{Bool, true, false, not, cond, _&&_, _||_}
@@ -185,18 +185,17 @@ module _ (l : List ℕ) (i : ℕ) (x : Shape) where
       }
 
 -- ---- an operand that stands alone
-no-dwords : {left : ℕ} {rs ws : List ℕ} {r w k v n : ℕ} → Run left rs ws r w k v n → k ≡ 0 → n ≡ 0
-no-dwords empty e = refl
-no-dwords (next t e₁) e = impossible (omega arith)
+no-rows : {left : ℕ} {rs ws : List ℕ} {r w k p v n : ℕ} → Run left rs ws r w k p v n → k ≡ 0 → (p ≡ 0) × (n ≡ 0)
+no-rows empty e = (refl, refl)
+no-rows (next t e₁) e = impossible (omega arith)
 
-own-dwords : {left : ℕ} {rs ws : List ℕ} {r w k v n : ℕ} → Run left rs ws r w k v n → k ≡ 1 → n ≡ at 15 (drop (16 * r) rs)
+own-dwords : {left : ℕ} {rs ws : List ℕ} {r w k p v n : ℕ} → Run left rs ws r w k p v n → k ≡ 1 → n ≡ getD rs (16 * r + 15) 0
 own-dwords empty e = impossible (omega arith)
-own-dwords {rs = rs} {r = r} (next {k} {v} {n} t e₁) e =
-    let z : k ≡ 0 = omega arith in
-    let y : r + k ≡ r = omega arith in
-    let u : n ≡ 0 = no-dwords t z in
-    let s : n + at 15 (drop (16 * (r + k)) rs) ≡ at 15 (drop (16 * (r + k)) rs) = omega arith in
-    s ∙ ap (λ (j : ℕ). at 15 (drop (16 * j) rs)) y
+own-dwords {rs = rs} {r = r} (next {p = p} {n = n} t e₁) e =
+    let z = no-rows t (omega arith) in
+    let y : r + p ≡ r = omega (arith, z .0) in
+    let u : n + at 15 (drop (16 * (r + p)) rs) ≡ at 15 (drop (16 * (r + p)) rs) = omega (arith, z .1) in
+    u ∙ getD-drop (16 * (r + p)) rs 15 0 ∙ ap (λ (j : ℕ). getD rs (16 * j + 15) 0) y
 
 module _ (k : ℕ) (rs ws : List ℕ) (r w : ℕ) (h : w ≤ length ws) where
   pub lost-lone : Lone k rs ws r w Off
@@ -215,8 +214,7 @@ module _ (k : ℕ) (rs ws : List ℕ) (r w : ℕ) (h : w ≤ length ws) where
 
     lone-size : y ≡ 1 + (ran .past - w)
     lone-size =
-        let a : 1 + (ran .past - w) + 0 ≡ at 15 (drop (16 * r) rs) = own-dwords (ran .runs 63 ws refl) refl in
-        let b : at 15 (drop (16 * r) rs) ≡ y = getD-drop (16 * r) rs 15 0 ∙ sym ey in
+        let a : 1 + (ran .past - w) + 0 % 2 ^ 40 ≡ getD rs (16 * r + 15) 0 = own-dwords (ran .runs 62 ws refl) refl in
         omega arith
 
     pub lone-fits : (1 ≤ y) × (w + y ≤ length ws + 1)
@@ -226,9 +224,10 @@ module _ (k : ℕ) (rs ws : List ℕ) (r w : ℕ) (h : w ≤ length ws) where
     one-lone v e m =
         let a : w + y - 1 ≡ v = (cc) in
         let b : ran .past ≡ v = omega (arith, lone-size, ran .words-from) in
-        let d : 1 + (ran .past - w) + 0 ≡ 1 + (v - w) = omega arith in
+        let d : 1 + (ran .past - w) + 0 % 2 ^ 40 ≡ 1 + (v - w) = omega arith in
+        let p : r + (1 + 0 / 2 ^ 40) ≡ r + 1 = omega arith in
         let j : 1 ≡ k = omega (arith, z) in
-        let one : Runs 1 rs ws r w (To (r + 1) v (1 + (v - w))) = subst (Runs 1 rs ws r w) (λ i. To (r + 1) (b i) (d i)) (run-takes (ran .runs 63 ws refl) h) in
+        let one : Runs 1 rs ws r w (To (r + 1) v (1 + (v - w))) = subst (Runs 1 rs ws r w) (λ i. To (p i) (b i) (d i)) (run-takes (ran .runs 62 ws refl) h) in
         subst (λ (c : ℕ). Runs c rs ws r w (To (r + c) v (c + (v - w)))) j one m
 
 -- ---- walking it
@@ -254,11 +253,12 @@ module _ (m : Bool) (x : Shape) (rs ws : List ℕ) (r w : ℕ) (hw : w ≤ lengt
         rw z at (all-parts m x rs ws r w hw p ep a ea run _ b _ refl v last end ee)
 
     module _ (l : List ℕ) (i place : ℕ) (h : i + 16 ≤ length l) (hc : getD l (i + 2) 0 < 2048) (g : Declared (getD l (i + 2) 0) x) {c : Bool} (o : c ≡ true → OnlyField (rowFrom i l) x) (hf : not c ≡ false) {d : Bool} (pl : Decides (Placed (rowFrom i l) place (x .kind) r (x .operands) w (end - w)) d) (hd : not d ≡ false) where
-      pub declared-walks : {k n y : ℕ} → k ≡ x .operands → 1 + k + (end - w) ≡ n → y ≡ getD l (i + 1) 0 → y ≡ n → Is (getD l (i + 13) 0) n ≡ walkedInstruction (confirmKnown m (rowFrom i l) place (drop (16 * r) rs) (drop w ws) r w)
+      pub declared-walks : {k n y : ℕ} → k ≡ x .operands → 1 + k + (end - w) ≡ n → y ≡ getD l (i + 1) 0 → y ≡ n → (n < 128) × (Is (getD l (i + 13) 0) n ≡ walkedInstruction (confirmKnown m (rowFrom i l) place (drop (16 * r) rs) (drop w ws) r w))
       declared-walks {k} {n} {y} ek en ey eq =
           let q₂ : at 2 (rowFrom i l) ≡ getD l (i + 2) 0 = row-at l i 2 (lit< tt) in
           let z : at 1 (rowFrom i l) ≡ 1 + (x .operands + (end - w)) = row-at l i 1 (lit< tt) ∙ sym ey ∙ omega arith in
           let o₁ : getD l (i + 13) 0 ≡ x .operands = sym (row-at l i 13 (lit< tt)) ∙ granted pl (not-false d hd) .operands-are in
           let j : getD l (i + 13) 0 ≡ r + x .operands - r = omega arith in
-          let s : Pieces (rowFrom i l) (x .operands + (end - w)) = declared-pieces (rowFrom i l) x (rw q₂ g) (omega arith) (o (not-false c hf)) _ z in
-          ap (λ (c : ℕ). Is c n) j ∙ walks l i place m rs ws r w h x (g .laid) declared-parts _ _ _ refl pl hd {c = true} (holds s) refl n (sym eq ∙ ey)
+          let f = o (not-false c hf) in
+          let s : Pieces (rowFrom i l) (x .operands + (end - w)) = declared-pieces (rowFrom i l) x (rw q₂ g) (omega arith) f _ z in
+          (omega (arith, f .short), ap (λ (c : ℕ). Is c n) j ∙ walks l i place m rs ws r w h x (g .laid) declared-parts _ _ _ refl pl hd {c = true} (holds s) refl n (sym eq ∙ ey))

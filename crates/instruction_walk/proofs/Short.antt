@@ -29,11 +29,13 @@ use Rattle.instruction_fields.specs.declared.Place.the-variants.{At}
 use Rattle.instruction_fields.proofs.Counted.{unsized}
 use Rattle.instruction_deep.specs.Walks.{Takes, Runs, rowFrom, Decides, holds, Counts, Unchained, Headed, Fielded, Pieces, Placed}
 use Rattle.instruction_walk.specs.Short.{Counted, Bits, Plain, Ready, chainIn, Linked, Known}
+use Rattle.instruction_deep.specs.declared.Walked.{Walked}
 use Rattle.instruction_deep.specs.declared.Walked.the-variants.{Is, Not}
 use Rattle.instruction_deep.specs.declared.Parts.{Parts}
 use Rattle.instruction_deep.specs.declared.Parts.the-variants.{To}
 use Rattle.operand_walk.specs.Walks.{Ran}
 use Rattle.instruction_walk.proofs.Alone.{run-takes}
+use Rattle.instruction_walk.proofs.Chain.{three-at-most}
 use Rattle.instruction_deep.proofs.Deciding.{granted, told, word-0}
 use Rattle.instruction_deep.proofs.Items.{bounds, takes-then, lent-runs, all-few}
 use Rattle.instruction_deep.proofs.Passing.{all-words}
@@ -203,6 +205,10 @@ other e = impossible (cc)
 pub below : (a b n : ℕ) {x : ℕ} → x ≡ a + b * 2 ^ 32 → n ≤ 2 ^ 32 → x < n → (a < n) × (b ≡ 0)
 below a b n ex hn h = (omega arith, omega arith)
 
+-- two numbers whose sum is 0
+pub both-none : (a b : ℕ) {x : ℕ} → x ≡ a + b * 2 ^ 32 → x ≡ 0 → (a ≡ 0) × (b ≡ 0)
+both-none a b ex e = (omega arith, omega arith)
+
 pub untested : (c : ℕ) {s e x : ℕ} → x ≡ s + e * 2 ^ 32 → x < 2 → Bits c s e
 untested c {s} {e} ex h =
     let z : e ≡ 0 = omega arith in
@@ -248,6 +254,35 @@ unsaid h = impossible (omega arith)
 pub untold : {A : Type 0} (i n : ℕ) → Not ≡ Is i n → A
 untold i n e = impossible (cc)
 
+-- a count below 128 tells of no operand with two rows
+one-row : {a n : ℕ} → n < 128 → Is (a + n / 2 ^ 40) (n % 2 ^ 40) ≡ Is a n
+one-row {a} {n} h =
+    let p : a + n / 2 ^ 40 ≡ a = omega arith in
+    let q : n % 2 ^ 40 ≡ n = omega arith in
+    λ i. Is (p i) (q i)
+
+pub one-row-told : {a n : ℕ} {v : Walked} → (n < 128) × (Is a n ≡ v) → Is (a + n / 2 ^ 40) (n % 2 ^ 40) ≡ v
+one-row-told (h, e) = one-row h ∙ e
+
+pub told-one-row : {a n : ℕ} {v : Walked} → n < 128 → Is (a + n / 2 ^ 40) (n % 2 ^ 40) ≡ v → Is a n ≡ v
+told-one-row h e = sym (one-row h) ∙ e
+
+-- a row that tells such a count tells its dwords, as one with operands of two rows does
+pub small : {d n y : ℕ} → n < 128 → y ≡ d → y ≡ n → (n ≡ n) × (n % 2 ^ 40 < 128) × (d ≡ n % 2 ^ 40)
+small h ey e = (refl, omega arith, omega arith)
+
+-- dwords that are added to a count are too few to make another 2 ^ 40
+split-count : (x y : ℕ) {n : ℕ} → x + y ≡ n → x % 2 ^ 40 + y < 2 ^ 40 → (n / 2 ^ 40 ≡ x / 2 ^ 40) × (n % 2 ^ 40 ≡ x % 2 ^ 40 + y)
+split-count x y e h = (omega arith, omega arith)
+
+-- a token, a chain of c dwords, k operands with the words from w to v and y dwords more, and the words from v to u
+dwords-taken : (k c y : ℕ) {w v u : ℕ} → w ≤ v → v ≤ u → 1 + c + (k + (v - w) + y) + (u - v) ≡ y + (1 + k + (u - w) + c)
+dwords-taken k c y hv hu = omega arith
+
+-- the rows of k operands, of which d have two
+rows-taken : (r : ℕ) {a k b d : ℕ} → a ≡ k → b ≡ d → a + b ≡ r + (k + d) - r
+rows-taken r ea eb = omega arith
+
 -- a plain row of a code with a count, whose operands stand in front of words as they are
 module _ (l : List ℕ) (i place : ℕ) (rs ws : List ℕ) (r w k : ℕ) (h : i + 16 ≤ length l) (g : Counted (rowFrom i l) k) (p : Plain (rowFrom i l)) (o : Placed (rowFrom i l) place 1 r k w (length ws - w)) (c : Linked (rowFrom i l)) where
   abbrev q₁ : List ℕ
@@ -271,17 +306,22 @@ module _ (l : List ℕ) (i place : ℕ) (rs ws : List ℕ) (r w k : ℕ) (h : i 
       let z : at 1 q₁ ≡ 1 + length (chainIn q₁) + (d + (length ws - v)) = omega arith in
       walks l i place m rs ws r w h s laid (all a m) _ _ _ refl {b = true} (holds o) refl {c = true} (holds (plain-pieces q₁ k g p c (omega arith) _ z)) refl n (sym e)
 
--- by operands that stand alone
-module _ (l : List ℕ) (i place : ℕ) (rs ws : List ℕ) (r w : ℕ) (h : i + 16 ≤ length l) (hw : w ≤ length ws) (h₃ : getD l (i + 3) 0 ≡ 1) (a : Ready (rowFrom i l) place r w (length ws - w)) where
-  pub quick-walks : {k k₁ x n y : ℕ} → (getD l (i + 13) 0 ≡ k) × Counted (rowFrom i l) k → k₁ ≡ k → (x ≡ 0 → ⊥) → (0 < x → Ran rs r w k₁ (length ws) (x - 1)) → (n < 128 → Linked (rowFrom i l) × (k₁ + (length ws - w) + x + length (chainIn (rowFrom i l)) ≡ n)) →
-      n < 128 → y ≡ getD l (i + 1) 0 → y ≡ n → Known (rowFrom i l) place (drop (16 * r) rs) (drop w ws) r w (Is (getD l (i + 13) 0) n)
-  quick-walks {k} {k₁} {x} {n} (e₁₃, g) ek nx t chain hn ey e m =
-      let a₁ = subst (λ (c : ℕ). Ran rs r w c (length ws) (x - 1)) ek (t (omega (arith, nx))) in
-      let o : Placed (rowFrom i l) place 1 r k w (length ws - w) = record { place-is = a .place-is; kind-is = row-at l i 3 (lit< tt) ∙ h₃; row-is = a .row-is; operands-are = row-at l i 13 (lit< tt) ∙ e₁₃; word-is = a .word-is; words-are = a .words-are } in
+-- by operands that have one row or two; b / 2 ^ 40 of them have two
+module _ (l : List ℕ) (i place : ℕ) (rs ws : List ℕ) (r w : ℕ) (h : i + 16 ≤ length l) (hw : w ≤ length ws) (h₃ : getD l (i + 3) 0 ≡ 1) (few : length ws < 2 ^ 32) (a : Ready (rowFrom i l) place r w (length ws - w)) where
+  pub quick-walks : {k k₁ x n b : ℕ} → (getD l (i + 13) 0 ≡ k) × Counted (rowFrom i l) k → k < 7 → k₁ ≡ k → (x ≡ 0 → ⊥) → (0 < x → Ran rs r w k₁ (length ws) (x - 1)) → (n % 2 ^ 40 < 128 → Linked (rowFrom i l) × (k₁ + (length ws - w) + x + length (chainIn (rowFrom i l)) ≡ n)) →
+      (b ≡ n) × (n % 2 ^ 40 < 128) × (getD l (i + 1) 0 ≡ n % 2 ^ 40) → Known (rowFrom i l) place (drop (16 * r) rs) (drop w ws) r w (Is (getD l (i + 13) 0 + b / 2 ^ 40) (b % 2 ^ 40))
+  quick-walks {k} {k₁} {x} {n} {b} (e₁₃, g) hk ek nx ran chain (eb, hn, e) m =
+      let q = rowFrom i l in
+      let a₁ = subst (λ (c : ℕ). Ran rs r w c (length ws) (x - 1)) ek (ran (omega (arith, nx))) in
+      let o : Placed q place 1 r k w (length ws - w) = record { place-is = a .place-is; kind-is = row-at l i 3 (lit< tt) ∙ h₃; row-is = a .row-is; operands-are = row-at l i 13 (lit< tt) ∙ e₁₃; word-is = a .word-is; words-are = a .words-are } in
       let c = chain hn in
-      let z : 1 + length (chainIn (rowFrom i l)) + (k + (a₁ .past - w) + (x - 1)) + (length ws - a₁ .past) ≡ n = omega (arith, a₁ .words-from, a₁ .words-to, nx, c .1) in
-      let j : getD l (i + 13) 0 ≡ r + k - r = omega arith in
-      ap (λ (b : ℕ). Is b n) j ∙ counted-walks l i place rs ws r w k h g (a .plain) o (c .0) (run-takes (a₁ .runs 63 ws refl) hw) z hn (sym ey ∙ e) m
+      let u = three-at-most (at 8 q) (at 9 q) (at 10 q) (at 11 q) in
+      let t : x - 1 + (1 + k + (length ws - w) + length (chainIn q)) ≡ b = omega (arith, nx, c .1) in
+      let s = split-count (x - 1) (1 + k + (length ws - w) + length (chainIn q)) t (omega (arith, a₁ .few)) in
+      let z = dwords-taken k (length (chainIn q)) ((x - 1) % 2 ^ 40) (a₁ .words-from) (a₁ .words-to) ∙ sym (s .1) in
+      let j = rows-taken r e₁₃ (s .0) in
+      let y : n % 2 ^ 40 ≡ b % 2 ^ 40 = ap (λ (c : ℕ). c % 2 ^ 40) (sym eb) in
+      ap (λ (c : ℕ). Is c (b % 2 ^ 40)) j ∙ counted-walks l i place rs ws r w k h g (a .plain) o (c .0) (run-takes (a₁ .runs 62 ws refl) hw) z (omega arith) (e ∙ y) m
 
 -- by operands one after the other, in pools that are lent anew
 module _ (l : List ℕ) (i place : ℕ) (rs ws : List ℕ) (r w k : ℕ) {p : Parts} (run : Runs k (take (length rs - 0) rs) (take (length ws - 0) ws) r w p) {r₁ v d : ℕ} (ep : p ≡ To r₁ v d) where

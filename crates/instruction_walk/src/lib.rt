@@ -1,7 +1,7 @@
 // Walks the row of an instruction, the rows of its operands and its words, which anybody may have written. Most rows are
 // usual and have a short way; the others go the general way.
 ghost use mathlib.Core.Path.{_≡_};
-ghost use Prim.Native.Nat.{_+_, _-_, _*_, _^_, _<_, _≤_};
+ghost use Prim.Native.Nat.{_+_, _-_, _*_, _/_, _%_, _^_, _<_, _≤_};
 ghost use mathlib.Core.Bool.{true};
 ghost use lib.ListN.{length, getD, take, drop};
 ghost use Rattle.layouts.specs.Shapes.{Sound};
@@ -134,7 +134,7 @@ fn linked(instructions: &[u32], first: usize) -> Place
 // of none; the pool is lent afresh for the others, which leaves the callers' in registers.
 fn with_chain(instructions: &[u32], first: usize, dwords: usize) -> usize
     requires { ⌜ (first + 16 ≤ length (now instructions)) × (dwords < 2 ^ 63) ⌝ }
-    ensures { λ n. ⌜ (n < 128 → Linked (rowFrom first (now (instructions .entry))) × (dwords + length (chainIn (rowFrom first (now (instructions .entry)))) ≡ n)) ⌝ }
+    ensures { λ n. ⌜ (n % 2 ^ 40 < 128 → Linked (rowFrom first (now (instructions .entry))) × (dwords + length (chainIn (rowFrom first (now (instructions .entry)))) ≡ n)) ⌝ }
 {
     if unextended(instructions, first) {
         return dwords;
@@ -146,8 +146,24 @@ fn with_chain(instructions: &[u32], first: usize, dwords: usize) -> usize
     dwords + c
 }
 
+// Gives a count of 128 or more back, if its dwords, which are below 2 ^ 40 in it, are those that a row tells; or else 0.
+fn spread(instructions: &[u32], first: usize, n: usize) -> usize
+    requires { ⌜ first + 16 ≤ length (now instructions) ⌝ }
+    ensures { λ r. ⌜ (0 < r → (r ≡ n) × (n % 2 ^ 40 < 128) × (getD (now (instructions .entry)) (first + 1) 0 ≡ n % 2 ^ 40)) ⌝ }
+{
+    let d = n % 0x100_0000_0000;
+    if 128 <= d {
+        return 0;
+    }
+    if wide(instructions[first + 1]) == d {
+        n
+    } else {
+        0
+    }
+}
+
 // Counts the dwords of an instruction of a code with a count, where its row is plain and the operands stand alone: behind
-// them are words as they are. 0 says nothing.
+// them are words as they are. For each operand of two rows it has 2 ^ 40 more. 0 says nothing.
 fn quick(
     instructions: &[u32],
     first: usize,
@@ -158,7 +174,7 @@ fn quick(
     word: usize,
 ) -> usize
     requires { ⌜ (first + 16 ≤ length (now instructions)) × (word ≤ length (now words)) × (getD (now instructions) (first + 2) 0 < 2048) × (getD (now instructions) (first + 3) 0 ≡ 1) × (length (now words) < 2 ^ 32) ⌝ }
-    ensures { λ n. ⌜ (0 < n → Known (rowFrom first (now (instructions .entry))) place (drop (16 * row) (now (operands .entry))) (drop word (now (words .entry))) row word (Walked.Is (getD (now (instructions .entry)) (first + 13) 0) n)) ⌝ }
+    ensures { λ n. ⌜ (0 < n → Known (rowFrom first (now (instructions .entry))) place (drop (16 * row) (now (operands .entry))) (drop word (now (words .entry))) row word (Walked.Is (getD (now (instructions .entry)) (first + 13) 0 + n / 2 ^ 40) (n % 2 ^ 40))) ⌝ }
 {
     let rest = words.len() - word;
     if !ready(instructions, first, place, row, word, rest) {
@@ -178,7 +194,7 @@ fn quick(
     }
     let n = with_chain(instructions, first, k + rest + more);
     if 128 <= n {
-        return 0;
+        return spread(instructions, first, n);
     }
     if wide(instructions[first + 1]) == n {
         n
@@ -300,7 +316,7 @@ fn declared_dwords(
     s: Shape,
 ) -> usize
     requires { ⌜ (first + 16 ≤ length (now instructions)) × (word ≤ length (now words)) × (getD (now instructions) (first + 2) 0 < 2048) × Declared (getD (now instructions) (first + 2) 0) s × Stepped s × (length (now words) < 2 ^ 32) ⌝ }
-    ensures { λ n. ⌜ (0 < n → Walked.Is (getD (now (instructions .entry)) (first + 13) 0) n ≡ walkedInstruction (c.confirmKnown model51 (rowFrom first (now (instructions .entry))) place (drop (16 * row) (now (operands .entry))) (drop word (now (words .entry))) row word)) ⌝ }
+    ensures { λ n. ⌜ (0 < n → (n < 128) × (Walked.Is (getD (now (instructions .entry)) (first + 13) 0) n ≡ walkedInstruction (c.confirmKnown model51 (rowFrom first (now (instructions .entry))) place (drop (16 * row) (now (operands .entry))) (drop word (now (words .entry))) row word))) ⌝ }
 {
     if !only_field(instructions, first, s) {
         return 0;
@@ -327,7 +343,8 @@ fn declared_dwords(
 }
 
 // Counts the dwords of the instruction that `walk` would walk, of a code with a count or of a declaration, where its row is
-// usual and its operands stand alone: they are as many as the row tells. 0 says nothing.
+// usual and its operands stand alone, as many as the row tells, or have one operand in an index: for each of those it has
+// 2 ^ 40 more. 0 says nothing.
 pub fn usual(
     instructions: &[u32],
     at: usize,
@@ -340,7 +357,7 @@ pub fn usual(
     word: usize,
 ) -> usize
     requires { ⌜ (at + 16 ≤ length (now instructions)) × (word ≤ length (now words)) × (ceiling ≤ 2048) × (length (now words) < 2 ^ 32) ⌝ }
-    ensures { λ n. ⌜ (0 < n → Walked.Is (getD (now (instructions .entry)) (at + 13) 0) n ≡ walkedInstruction (c.confirmInstruction ceiling model51 (take 16 (drop at (now (instructions .entry)))) place (drop (16 * row) (now (operands .entry))) (drop word (now (words .entry))) row word)) ⌝ }
+    ensures { λ n. ⌜ (0 < n → Walked.Is (getD (now (instructions .entry)) (at + 13) 0 + n / 2 ^ 40) (n % 2 ^ 40) ≡ walkedInstruction (c.confirmInstruction ceiling model51 (take 16 (drop at (now (instructions .entry)))) place (drop (16 * row) (now (operands .entry))) (drop word (now (words .entry))) row word)) ⌝ }
 {
     let code = instructions[at + 2];
     if ceiling <= code {

@@ -12,11 +12,15 @@ use Rattle.format.proofs.Dwords.{impossible}
 use Rattle.operand_deep.proofs.Fields.{row-at}
 use Rattle.output.specs.Puts.{put, Headed}
 use Rattle.operand_emit.specs.Emits.{rowFrom, headOf, wordsLeft, Lone, Stood, flatOf, Few}
-use Rattle.output.proofs.Puts.{dwords-length, dwords-more, copied-one, copied-two, copied-four}
+use Rattle.output.proofs.Puts.{dwords-length, dwords-more, copied-none, copied-one, copied-two, copied-four}
 use Rattle.operand_emit.proofs.Heads.{head-one, two-dwords, headed-one, headed-two, flat-plain, flat-extended}
 
 moved : (a b : ℕ) → a ≡ b → (x : ℕ) (out : List ℕ) → put (4 * a) (bytesOf (x ∷ [])) out ≡ put (4 * b) (bytesOf (x ∷ [])) out
 moved a b e x out = ap (λ (j : ℕ). put (4 * j) (bytesOf (x ∷ [])) out) e
+
+-- an operand without words may stand before any number of words
+pub lone-any : {q : List ℕ} {ws word place n : ℕ} → Few q 0 → Lone q ws word place n → (ws′ : ℕ) → Lone q ws′ word place n
+lone-any f g ws′ = record { fits = g .fits; head-fits = g .head-fits; words-there = omega (arith, f .left-is); room = g .room }
 
 -- ---- an operand with no operand in it
 module _ (rs ws : List ℕ) (first word place n : ℕ) (g : Lone (rowFrom first rs) (length ws) word place n) where
@@ -90,6 +94,12 @@ module _ (rs ws : List ℕ) (first word place n : ℕ) (g : Lone (rowFrom first 
         plain-stood : (end : ℕ) → end ≡ place + 1 + k → {out₂ : List ℕ} → out₂ ≡ put (4 * (place + 1)) (bytesOf (take k (drop word ws))) out₁ →
             Stood (rowFrom first rs) ws first word place out (record { first = first + 16; word = word + k; at = end }) out₂
         plain-stood end ee e = few-stood k f (place + 1) one-dword end ee en plain-headed e
+
+        pub none-stood : k ≡ 0 → Stood (rowFrom first rs) ws first word place out (record { first = first + 16; word = word; at = place + 1 }) out₁
+        none-stood ek =
+            let z : word + k ≡ word = omega arith in
+            subst (λ (j : ℕ). Stood (rowFrom first rs) ws first word place out (record { first = first + 16; word = j; at = place + 1 }) out₁) z
+            (plain-stood (place + 1) (omega arith) (copied-none ws word k (place + 1) out₁ ek))
 
         module _ {out₂ : List ℕ} (e₂ : out₂ ≡ put (4 * (place + 1)) (bytesOf (getD ws word 0 ∷ [])) out₁) where
           pub one-stood : k ≡ 1 → Stood (rowFrom first rs) ws first word place out (record { first = first + 16; word = word + k; at = place + 2 }) out₂

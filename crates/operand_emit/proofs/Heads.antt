@@ -124,6 +124,7 @@ module _ (rs : List ℕ) (o : ℕ) where
         modified = λ w. impossible (omega arith);
         four = λ w. impossible (omega arith);
         immediate = λ w. impossible (omega arith);
+        wordless = λ w. impossible (omega arith);
       }
 
   pub way-modified : {v : ℕ} → v ≡ R 6 + R 7 * 2 ^ 32 → v ≡ 1 → (R 3 ≡ 0 → ⊥) → Way Q 3
@@ -136,6 +137,7 @@ module _ (rs : List ℕ) (o : ℕ) where
         modified = λ w. (omega (arith, row-at rs o 3 (lit< tt)), row-at rs o 7 (lit< tt) ∙ z .1, row-at rs o 6 (lit< tt) ∙ z .0);
         four = λ w. impossible (omega arith);
         immediate = λ w. impossible (omega arith);
+        wordless = λ w. impossible (omega arith);
       }
 
   module _ (m : R 3 ≡ 0) (h : R 7 ≡ 0) where
@@ -147,6 +149,7 @@ module _ (rs : List ℕ) (o : ℕ) where
           modified = λ w. impossible (omega arith);
           four = λ w. impossible (omega arith);
           immediate = λ w. impossible (omega arith);
+          wordless = λ w. impossible (omega arith);
         }
 
     pub way-four : R 15 ≡ 5 → Way Q 4
@@ -157,6 +160,7 @@ module _ (rs : List ℕ) (o : ℕ) where
           modified = λ w. impossible (omega arith);
           four = λ w. (row-at rs o 3 (lit< tt) ∙ m, row-at rs o 7 (lit< tt) ∙ h, row-at rs o 15 (lit< tt) ∙ d);
           immediate = λ w. impossible (omega arith);
+          wordless = λ w. impossible (omega arith);
         }
 
     pub way-immediate : R 15 ≡ 2 → Way Q 5
@@ -167,6 +171,18 @@ module _ (rs : List ℕ) (o : ℕ) where
           modified = λ w. impossible (omega arith);
           four = λ w. impossible (omega arith);
           immediate = λ w. (row-at rs o 3 (lit< tt) ∙ m, row-at rs o 7 (lit< tt) ∙ h, row-at rs o 15 (lit< tt) ∙ d);
+          wordless = λ w. impossible (omega arith);
+        }
+
+    pub way-wordless : R 15 ≡ 1 → Way Q 6
+    way-wordless d =
+        record {
+          one = λ w. impossible (omega arith);
+          two = λ w. impossible (omega arith);
+          modified = λ w. impossible (omega arith);
+          four = λ w. impossible (omega arith);
+          immediate = λ w. impossible (omega arith);
+          wordless = λ w. (row-at rs o 3 (lit< tt) ∙ m, row-at rs o 7 (lit< tt) ∙ h, row-at rs o 15 (lit< tt) ∙ d);
         }
 
 -- what fits of a row fits where it is read

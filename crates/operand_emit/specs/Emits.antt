@@ -83,3 +83,4 @@ pub record Way (q : List ℕ) (r : ℕ) : Type 0 where
   pub modified : r ≡ 3 → (0 < at 3 q) × (at 7 q ≡ 0) × (at 6 q ≡ 1)
   pub four : r ≡ 4 → (at 3 q ≡ 0) × (at 7 q ≡ 0) × (at 15 q ≡ 5)
   pub immediate : r ≡ 5 → (at 3 q ≡ 0) × (at 7 q ≡ 0) × (at 15 q ≡ 2)
+  pub wordless : r ≡ 6 → (at 3 q ≡ 0) × (at 7 q ≡ 0) × (at 15 q ≡ 1)

@@ -1,6 +1,6 @@
 // Writes the dwords of an operand whose rows and words were confirmed.
 ghost use mathlib.Core.Path.{_≡_};
-ghost use mathlib.Core.List.{[], _∷_};
+ghost use mathlib.Core.List.{List, [], _∷_};
 ghost use Prim.Native.Nat.{ℕ, _+_, _-_, _*_, _/_, _%_, _^_, _<_, _≤_};
 ghost use lib.ListN.{length, getD, take, drop};
 ghost use Rattle.format.specs.Operands as op;
@@ -103,6 +103,20 @@ fn flat_dword(operands: &[u32], o: usize) -> u32
 {
     let front = operands[o] * 0x1000 + operands[o + 2] * 0x10 + low(operands[o + 1]);
     front + operands[o + 6] * 0x10_0000
+}
+
+// Writes an operand without modifiers and without words: its dword alone. It reads no word, so what it ensures holds for any
+// words.
+fn without_words(operands: &[u32], first: usize, word: usize, output: &mut [u8], at: usize) -> Ends
+    requires { ⌜ (first + 16 ≤ length (now operands)) × (e.at 3 (w.rowFrom first (now operands)) ≡ 0) × w.Few (w.rowFrom first (now operands)) 0 × w.Lone (w.rowFrom first (now operands)) 0 word at (length (now output)) ⌝ }
+    ensures { λ r. ⌜ ((ws : List ℕ) → w.Stood (w.rowFrom first (now (operands .entry))) ws first word at (now (output .entry)) r (now (output .exit))) ⌝ }
+{
+    put_dword(output, at, flat_dword(operands, first));
+    Ends {
+        first: first + 16,
+        word,
+        at: at + 1,
+    }
 }
 
 // Writes an operand without modifiers and with one word behind its dword.
@@ -276,6 +290,7 @@ fn way(operands: &[u32], o: usize) -> u32
         return 2;
     }
     match operands[o + 15] {
+        1 => 6,
         2 => 5,
         5 => 4,
         _ => 0,
@@ -283,8 +298,8 @@ fn way(operands: &[u32], o: usize) -> u32
 }
 
 // Writes the operand that was confirmed where its row begins and at a word, from a dword of the output on. Most have one index
-// of one dword, or else a few words, and go a short way. The others' pools are lent afresh, which leaves those of the callers
-// in registers.
+// of one dword, or else a few words or none, and go a short way. The others' pools are lent afresh, which leaves those of the
+// callers in registers.
 pub fn emit(
     operands: &[u32],
     words: &[u32],
@@ -313,12 +328,11 @@ pub fn emit(
     if way == 5 {
         return with_word(operands, words, first, word, output, at);
     }
+    if way == 6 {
+        return without_words(operands, first, word, output, at);
+    }
     let rows = &operands[0..operands.len()];
     let all = &words[0..words.len()];
-    let ends = deep(rows, all, first, word, left, output, at);
-    Ends {
-        first: ends.first,
-        word: ends.word,
-        at: ends.at,
-    }
+    let Ends { first, word, at } = deep(rows, all, first, word, left, output, at);
+    Ends { first, word, at }
 }

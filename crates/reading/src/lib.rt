@@ -133,8 +133,13 @@ fn ahead(
         if d == 0 {
             break;
         }
-        place += d * 4;
-        row += wide(rows[i + 13]);
+        if 128 <= d {
+            place += d % 0x100_0000_0000 * 4;
+            row += wide(rows[i + 13]) + d / 0x100_0000_0000;
+        } else {
+            place += d * 4;
+            row += wide(rows[i + 13]);
+        }
         i += 16;
         word = end;
     }

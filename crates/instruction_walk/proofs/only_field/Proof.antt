@@ -1,7 +1,5 @@
-use lib.Dec.{lit<}
 use borrow.Author.Tests.{not-false}
-use Rattle.operand_walk.proofs.Alone.{apart}
-use Rattle.instruction_walk.proofs.Short.{other}
+use Rattle.instruction_walk.proofs.Short.{other, both-none}
 use Rattle.instruction_walk.proofs.Declared.{field-row}
 use borrow.Author.Needs.{needs}
 use Rattle.instruction_walk.proofs.only_field.Statement.{statement}
@@ -74,7 +72,7 @@ field-fits-requires : tie.Need-field-fits-requires
 field-fits-requires c κs = search needs
 
 returns-5 : tie.Need-returns-5
-returns-5 c = λ y. field-row (c .before .before .before .before .before .before .before .before .before .before .before .before .before .args .instructions .now) (c .before .before .before .before .before .before .before .before .before .before .before .before .before .args .first) (c .before .before .before .before .before .before .before .before .before .before .before .before .before .args .s) (apart _ _ 0 0 (c .before .before .before .before .before .before .before .before .before .pair .ensures .0) (c .before .before .before .before .before .before .before .before .before .pair .ensures .1) (lit< tt) (c .before .before .before .before .before .before .before .before .if1 .left)) (c .before .before .before .before .before .before .if2 .left) (c .before .before .before .before .before .unextended .ensures (not-false _ (c .before .before .before .before .if3 .left))) (c .before .before .before .before .before .before .before .before .before .before .before .before .before .pre .1) (c .before .before .if4 .left) (c .field-fits .ensures y)
+returns-5 c = λ y. field-row (c .before .before .before .before .before .before .before .before .before .before .before .before .before .args .instructions .now) (c .before .before .before .before .before .before .before .before .before .before .before .before .before .args .first) (c .before .before .before .before .before .before .before .before .before .before .before .before .before .args .s) (both-none _ _ (c .before .before .before .before .before .before .before .before .before .pair .ensures .0) (c .before .before .before .before .before .before .before .before .if1 .left)) (c .before .before .before .before .before .before .if2 .left) (c .before .before .before .before .before .unextended .ensures (not-false _ (c .before .before .before .before .if3 .left))) (c .before .before .before .before .before .before .before .before .before .before .before .before .before .pre .1) (c .before .before .if4 .left) (c .field-fits .ensures y)
 
 pub only-field-spec : {M : Type 1} → statement M
 only-field-spec =

@@ -1,7 +1,5 @@
-use lib.Dec.{lit<}
 use borrow.Author.Tests.{eqb-true}
-use Rattle.operand_walk.proofs.Alone.{apart}
-use Rattle.instruction_walk.proofs.Short.{other, unextended-row}
+use Rattle.instruction_walk.proofs.Short.{other, both-none, unextended-row}
 use borrow.Author.Needs.{needs}
 use Rattle.instruction_walk.proofs.unextended.Statement.{statement}
 use Rattle.instruction_walk.proofs.unextended.Tie as tie
@@ -52,7 +50,7 @@ pair-requires-2 : tie.Need-pair-requires-2
 pair-requires-2 c κs = search needs
 
 returns-2 : tie.Need-returns-2
-returns-2 c = λ e. unextended-row (c .before .before .before .before .before .before .before .before .args .instructions .now) (c .before .before .before .before .before .before .before .before .args .first) (apart _ _ 0 0 (c .pair2 .ensures .0) (c .pair2 .ensures .1) (lit< tt) (eqb-true _ _ e)) (apart _ _ 0 0 (c .before .before .before .before .pair .ensures .0) (c .before .before .before .before .pair .ensures .1) (lit< tt) (c .before .before .before .if1 .left))
+returns-2 c = λ e. unextended-row (c .before .before .before .before .before .before .before .before .args .instructions .now) (c .before .before .before .before .before .before .before .before .args .first) (both-none _ _ (c .pair2 .ensures .0) (eqb-true _ _ e)) (both-none _ _ (c .before .before .before .before .pair .ensures .0) (c .before .before .before .if1 .left))
 
 pub unextended-spec : {M : Type 1} → statement M
 unextended-spec =

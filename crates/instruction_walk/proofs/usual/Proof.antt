@@ -1,6 +1,6 @@
 use native.Mathlib.Omega.{arith}
 use Rattle.instruction_fields.proofs.BareTokens.{declared-by}
-use Rattle.instruction_walk.proofs.Short.{unsaid}
+use Rattle.instruction_walk.proofs.Short.{unsaid, one-row-told}
 use Rattle.instruction_walk.proofs.Fitting.{stepped}
 use Rattle.instruction_walk.proofs.Ceiling.{by-known}
 use borrow.Author.Needs.{needs}
@@ -47,7 +47,7 @@ declared-dwords-requires : tie.Need-declared-dwords-requires
 declared-dwords-requires c κs = (c .before .before .before .before .before .before .before .before .before .before .pre .0, c .before .before .before .before .before .before .before .before .before .before .pre .1, omega (arith, c .before .before .before .before .before .if1 .left, c .before .before .before .before .before .before .before .before .before .before .pre .2), declared-by _ _ _ (c .before .before .declaration .ensures) (c .before .if3 .left) (c .declared .ensures), stepped _ _ (c .declared .ensures), c .before .before .before .before .before .before .before .before .before .before .pre .3)
 
 returns-4 : tie.Need-returns-4
-returns-4 c = λ z. by-known (c .before .before .before .before .before .before .before .before .before .before .before .args .instructions .now) (c .before .before .before .before .before .before .before .before .before .before .before .args .at) (c .before .before .before .before .before .before .before .before .before .before .before .args .place) (c .before .before .before .before .before .before .before .before .before .before .before .args .ceiling) (c .before .before .before .before .before .before .before .before .before .before .before .args .model51) (c .before .before .before .before .before .before .before .before .before .before .before .args .operands .now) (c .before .before .before .before .before .before .before .before .before .before .before .args .words .now) (c .before .before .before .before .before .before .before .before .before .before .before .args .row) (c .before .before .before .before .before .before .before .before .before .before .before .args .word) (c .before .before .before .before .before .before .if1 .left) (c .declared-dwords .ensures z)
+returns-4 c = λ z. by-known (c .before .before .before .before .before .before .before .before .before .before .before .args .instructions .now) (c .before .before .before .before .before .before .before .before .before .before .before .args .at) (c .before .before .before .before .before .before .before .before .before .before .before .args .place) (c .before .before .before .before .before .before .before .before .before .before .before .args .ceiling) (c .before .before .before .before .before .before .before .before .before .before .before .args .model51) (c .before .before .before .before .before .before .before .before .before .before .before .args .operands .now) (c .before .before .before .before .before .before .before .before .before .before .before .args .words .now) (c .before .before .before .before .before .before .before .before .before .before .before .args .row) (c .before .before .before .before .before .before .before .before .before .before .before .args .word) (c .before .before .before .before .before .before .if1 .left) (one-row-told (c .declared-dwords .ensures z))
 
 pub usual-spec : {M : Type 1} → statement M
 usual-spec =

@@ -1,6 +1,6 @@
 use native.Mathlib.Omega.{arith}
+use Rattle.format.proofs.Dwords.{impossible}
 use Rattle.instruction_walk.proofs.Chain.{unlinked, few-linked, linked-there}
-use Rattle.instruction_walk.proofs.Short.{unsaid}
 use borrow.Author.Needs.{needs}
 use Rattle.instruction_walk.proofs.with_chain.Statement.{statement}
 use Rattle.instruction_walk.proofs.with_chain.Tie as tie
@@ -30,7 +30,7 @@ enum-told : tie.Need-enum-told
 enum-told c = search needs
 
 returns-2 : tie.Need-returns-2
-returns-2 c = unsaid
+returns-2 c = λ h. impossible (omega arith)
 
 add-result : tie.Need-add-result
 add-result c = omega (arith, c .before .before .before .before .before .before .before .before .pre .1, few-linked (c .before .before .before .before .before .before .before .before .args .instructions .now) (c .before .before .before .before .before .before .before .before .args .first) (c .before .before .before .linked .ensures) (c .before .c .given .1))

@@ -1,5 +1,6 @@
 use native.Mathlib.Omega.{arith}
 use lib.ListN.{length}
+use Rattle.operand_emit.proofs.Emitting.{lone-any}
 use Rattle.operand_emit.proofs.Trees.{ready-lent, emitted-lent, row-within, lone-ready, lone-emitted, flat-rows, indices-few, dwords-few}
 use borrow.Author.Needs.{needs}
 use Rattle.operand_emit.proofs.emit.Statement.{statement}
@@ -53,6 +54,15 @@ same-length-5 c = search needs
 returns-5 : tie.Need-returns-5
 returns-5 c = let a = c .before .before .before .before .before .before .before .before .before .before .before .before .before .args in let p = c .before .before .before .before .before .before .before .before .before .way .ensures .immediate (c .before .before .before .before .if5 .taken) in lone-emitted (a .left) (a .operands .now) (a .words .now) (a .first) (a .word) (a .at) (length (a .output .now)) (c .before .before .before .before .before .before .before .before .before .before .before .before .before .pre) (flat-rows (a .left) (a .operands .now) (a .words .now) (a .first) (a .word) (a .at) (length (a .output .now)) (c .before .before .before .before .before .before .before .before .before .before .before .before .before .pre) (p .1)) (c .before .before .with-word2 .ensures)
 
+without-words-requires : tie.Need-without-words-requires
+without-words-requires c κs = let a = c .before .before .before .before .before .before .before .before .before .before .before .args in let p = c .before .before .before .before .before .before .before .way .ensures .wordless (c .before .if6 .taken) in let f = dwords-few (a .left) (a .operands .now) (a .words .now) (a .first) (a .word) (a .at) (length (a .output .now)) (c .before .before .before .before .before .before .before .before .before .before .before .pre) (p .1) (p .0) 0 (p .2) in (row-within (a .left) (a .operands .now) (a .words .now) (a .first) (a .word) (a .at) (length (a .output .now)) (c .before .before .before .before .before .before .before .before .before .before .before .pre), p .0, f, lone-any f (lone-ready (a .left) (a .operands .now) (a .words .now) (a .first) (a .word) (a .at) (length (a .output .now)) (c .before .before .before .before .before .before .before .before .before .before .before .pre) (flat-rows (a .left) (a .operands .now) (a .words .now) (a .first) (a .word) (a .at) (length (a .output .now)) (c .before .before .before .before .before .before .before .before .before .before .before .pre) (p .1))) 0)
+
+same-length-6 : tie.Need-same-length-6
+same-length-6 c = search needs
+
+returns-6 : tie.Need-returns-6
+returns-6 c = let a = c .before .before .before .before .before .before .before .before .before .before .before .before .before .before .args in let p = c .before .before .before .before .before .before .before .before .before .before .way .ensures .wordless (c .before .before .before .before .if6 .taken) in lone-emitted (a .left) (a .operands .now) (a .words .now) (a .first) (a .word) (a .at) (length (a .output .now)) (c .before .before .before .before .before .before .before .before .before .before .before .before .before .before .pre) (flat-rows (a .left) (a .operands .now) (a .words .now) (a .first) (a .word) (a .at) (length (a .output .now)) (c .before .before .before .before .before .before .before .before .before .before .before .before .before .before .pre) (p .1)) (c .before .before .without-words .ensures (a .words .now))
+
 sub-rows : tie.Need-sub-rows
 sub-rows c = search needs
 
@@ -72,13 +82,13 @@ part-all-end : tie.Need-part-all-end
 part-all-end c = search needs
 
 deep-requires : tie.Need-deep-requires
-deep-requires c κs = let a = c .before .before .before .before .before .before .before .before .before .before .before .before .args in ready-lent (a .left) (a .operands .now) (a .words .now) (a .first) (a .word) (a .at) _ (c .before .before .before .before .before .before .before .before .before .before .before .before .pre)
+deep-requires c κs = let a = c .before .before .before .before .before .before .before .before .before .before .before .before .before .args in ready-lent (a .left) (a .operands .now) (a .words .now) (a .first) (a .word) (a .at) _ (c .before .before .before .before .before .before .before .before .before .before .before .before .before .pre)
 
-same-length-6 : tie.Need-same-length-6
-same-length-6 c = search needs
+same-length-7 : tie.Need-same-length-7
+same-length-7 c = search needs
 
-returns-6 : tie.Need-returns-6
-returns-6 c = let a = c .before .before .before .before .before .before .before .before .before .before .before .before .before .before .before .args in emitted-lent (a .left) (a .operands .now) (a .words .now) (a .first) (a .word) (a .at) (c .before .before .deep .ensures)
+returns-7 : tie.Need-returns-7
+returns-7 c = let a = c .before .before .before .before .before .before .before .before .before .before .before .before .before .before .before .before .args in emitted-lent (a .left) (a .operands .now) (a .words .now) (a .first) (a .word) (a .at) (c .before .before .deep .ensures)
 
 pub emit-spec : {M : Type 1} → statement M
 emit-spec =
@@ -100,6 +110,9 @@ emit-spec =
     with-word-requires-2
     same-length-5
     returns-5
+    without-words-requires
+    same-length-6
+    returns-6
     sub-rows
     part-rows-start
     part-rows-end
@@ -107,5 +120,5 @@ emit-spec =
     part-all-start
     part-all-end
     deep-requires
-    same-length-6
-    returns-6)
+    same-length-7
+    returns-7)

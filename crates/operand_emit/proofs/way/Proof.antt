@@ -1,4 +1,4 @@
-use Rattle.operand_emit.proofs.Heads.{way-one, way-modified, way-two, way-four, way-immediate}
+use Rattle.operand_emit.proofs.Heads.{way-one, way-modified, way-two, way-four, way-immediate, way-wordless}
 use borrow.Author.Needs.{needs}
 use Rattle.operand_emit.proofs.way.Statement.{statement}
 use Rattle.operand_emit.proofs.way.Tie as tie
@@ -85,13 +85,16 @@ shared-slice-read-match : tie.Need-shared-slice-read-match
 shared-slice-read-match c = search needs
 
 returns-6 : tie.Need-returns-6
-returns-6 c = let a = c .before .before .before .before .before .before .before .before .before .before .before .before .before .args in way-immediate (a .operands .now) (a .o) (c .before .before .before .before .before .before .if3 .left) (c .before .before .before .before .if4 .left) (c .match .keys1)
+returns-6 c = let a = c .before .before .before .before .before .before .before .before .before .before .before .before .before .args in way-wordless (a .operands .now) (a .o) (c .before .before .before .before .before .before .if3 .left) (c .before .before .before .before .if4 .left) (c .match .keys1)
 
 returns-7 : tie.Need-returns-7
-returns-7 c = let a = c .before .before .before .before .before .before .before .before .before .before .before .before .before .args in way-four (a .operands .now) (a .o) (c .before .before .before .before .before .before .if3 .left) (c .before .before .before .before .if4 .left) (c .match .keys2)
+returns-7 c = let a = c .before .before .before .before .before .before .before .before .before .before .before .before .before .args in way-immediate (a .operands .now) (a .o) (c .before .before .before .before .before .before .if3 .left) (c .before .before .before .before .if4 .left) (c .match .keys2)
 
 returns-8 : tie.Need-returns-8
-returns-8 c = search needs
+returns-8 c = let a = c .before .before .before .before .before .before .before .before .before .before .before .before .before .args in way-four (a .operands .now) (a .o) (c .before .before .before .before .before .before .if3 .left) (c .before .before .before .before .if4 .left) (c .match .keys3)
+
+returns-9 : tie.Need-returns-9
+returns-9 c = search needs
 
 pub way-spec : {M : Type 1} → statement M
 way-spec =
@@ -126,4 +129,5 @@ way-spec =
     shared-slice-read-match
     returns-6
     returns-7
-    returns-8)
+    returns-8
+    returns-9)

@@ -1,7 +1,5 @@
-use mathlib.Core.Path.{_∙_}
-use native.Mathlib.Omega.{arith}
-use lib.Dec.{lit<}
-use Rattle.operand_walk.proofs.Alone.{other, lower, unmodified, starting, bare-row}
+use borrow.Author.Tests.{not-false}
+use Rattle.operand_walk.proofs.Alone.{other, unmodified, bare-one}
 use borrow.Author.Needs.{needs}
 use Rattle.operand_walk.proofs.bare.Statement.{statement}
 use Rattle.operand_walk.proofs.bare.Tie as tie
@@ -12,56 +10,11 @@ shared-slice-read-if1 c = search needs
 returns : tie.Need-returns
 returns c = other
 
-shared-slice-read-pair : tie.Need-shared-slice-read-pair
-shared-slice-read-pair c = search needs
-
-shared-slice-read-pair-2 : tie.Need-shared-slice-read-pair-2
-shared-slice-read-pair-2 c = search needs
-
-pair-requires : tie.Need-pair-requires
-pair-requires c κs = search needs
+one-index-requires : tie.Need-one-index-requires
+one-index-requires c κs = search needs
 
 returns-2 : tie.Need-returns-2
 returns-2 c = other
-
-shared-slice-read-pair-3 : tie.Need-shared-slice-read-pair-3
-shared-slice-read-pair-3 c = search needs
-
-shared-slice-read-pair-4 : tie.Need-shared-slice-read-pair-4
-shared-slice-read-pair-4 c = search needs
-
-pair-requires-2 : tie.Need-pair-requires-2
-pair-requires-2 c κs = search needs
-
-returns-3 : tie.Need-returns-3
-returns-3 c = other
-
-shared-slice-read-pair-5 : tie.Need-shared-slice-read-pair-5
-shared-slice-read-pair-5 c = search needs
-
-shared-slice-read-pair-6 : tie.Need-shared-slice-read-pair-6
-shared-slice-read-pair-6 c = search needs
-
-pair-requires-3 : tie.Need-pair-requires-3
-pair-requires-3 c κs = search needs
-
-returns-4 : tie.Need-returns-4
-returns-4 c = other
-
-shared-slice-read-pair-7 : tie.Need-shared-slice-read-pair-7
-shared-slice-read-pair-7 c = search needs
-
-shared-slice-read-pair-8 : tie.Need-shared-slice-read-pair-8
-shared-slice-read-pair-8 c = search needs
-
-pair-requires-4 : tie.Need-pair-requires-4
-pair-requires-4 c κs = search needs
-
-far-requires : tie.Need-far-requires
-far-requires c κs = search needs
-
-returns-5 : tie.Need-returns-5
-returns-5 c = other
 
 shared-slice-read-selections : tie.Need-shared-slice-read-selections
 shared-slice-read-selections c = search needs
@@ -72,31 +25,26 @@ selections-requires c κs = search needs
 long-requires : tie.Need-long-requires
 long-requires c κs = search needs
 
-shared-slice-read-pair-9 : tie.Need-shared-slice-read-pair-9
-shared-slice-read-pair-9 c = search needs
+shared-slice-read-pair : tie.Need-shared-slice-read-pair
+shared-slice-read-pair c = search needs
 
-shared-slice-read-pair-10 : tie.Need-shared-slice-read-pair-10
-shared-slice-read-pair-10 c = search needs
+shared-slice-read-pair-2 : tie.Need-shared-slice-read-pair-2
+shared-slice-read-pair-2 c = search needs
 
-pair-requires-5 : tie.Need-pair-requires-5
-pair-requires-5 c κs = search needs
+pair-requires : tie.Need-pair-requires
+pair-requires c κs = search needs
 
-returns-6 : tie.Need-returns-6
-returns-6 c = other
+returns-3 : tie.Need-returns-3
+returns-3 c = other
 
-shared-slice-read-indexed : tie.Need-shared-slice-read-indexed
-shared-slice-read-indexed c = search needs
+shared-slice-read-typed : tie.Need-shared-slice-read-typed
+shared-slice-read-typed c = search needs
 
-indexed-requires : tie.Need-indexed-requires
-indexed-requires c κs = search needs
+typed-requires : tie.Need-typed-requires
+typed-requires c κs = search needs
 
-returns-7 : tie.Need-returns-7
-returns-7 c = λ e h. bare-row (c .before .before .before .before .before .before .before .before .before .before .before .before .before .before .before .before .before .before .before .before .before .before .before .before .before .before .before .before .before .args .q .now) (c .before .before .before .before .before .before .before .before .before .before .before .before .before .before .before .before .before .before .before .before .before .before .before .before .before .before .before .before .before .args .word) 1 (c .before .before .before .before .before .before .before .before .before .before .before .before .before .before .before .before .before .before .before .before .before .before .before .before .before .before .before .before .before .pre .0) (c .before .before .before .before .before .before .before .before .before .before .before .before .before .before .before .before .before .before .before .before .before .before .before .before .before .before .before .before .before .pre .1)
-    (unmodified (c .before .before .before .before .before .before .before .before .before .before .before .before .before .before .before .before .before .before .before .before .before .before .before .before .before .before .before .before .before .args .q .now) (c .before .before .before .before .before .before .before .selections .ensures) (c .before .before .before .before .before .before .long .ensures) (c .before .before .before .pair5 .ensures .0) (c .before .before .if6 .left))
-    (starting (c .before .before .before .before .before .before .before .before .before .before .before .before .before .before .before .before .before .before .before .before .before .before .before .before .before .before .before .before .before .args .q .now) (c .before .before .before .before .before .before .before .before .before .before .before .before .before .before .before .before .before .before .before .before .before .before .before .before .before .before .before .before .before .args .word) (c .indexed .ensures e) (lower _ _ 0 (c .before .before .before .before .before .before .before .before .before .before .before .before .before .before .before .pair3 .ensures .0) (c .before .before .before .before .before .before .before .before .before .before .before .before .before .before .before .pair3 .ensures .1) (lit< tt) (c .before .before .before .before .before .before .before .before .before .before .before .before .before .before .if4 .left)) (lower _ _ (c .before .before .before .before .before .before .before .before .before .before .before .before .before .before .before .before .before .before .before .before .before .before .before .before .before .before .before .before .before .args .word) (c .before .before .before .before .before .before .before .before .before .before .before .pair4 .ensures .0) (c .before .before .before .before .before .before .before .before .before .before .before .pair4 .ensures .1) h (c .before .before .before .before .before .before .before .before .before .if5 .left ∙ c .before .before .before .before .before .before .before .before .before .before .far .ensures) .0) h)
-    (omega arith) (omega arith) (lower _ _ 1 (c .before .before .before .before .before .before .before .before .before .before .before .before .before .before .before .before .before .before .before .pair2 .ensures .0) (c .before .before .before .before .before .before .before .before .before .before .before .before .before .before .before .before .before .before .before .pair2 .ensures .1) (lit< tt) (c .before .before .before .before .before .before .before .before .before .before .before .before .before .before .before .before .before .before .if3 .left))
-    (lower _ _ (c .before .before .before .before .before .before .before .before .before .before .before .before .before .before .before .before .before .before .before .before .before .before .before .before .before .before .before .before .before .args .word) (c .before .before .before .before .before .before .before .before .before .before .before .pair4 .ensures .0) (c .before .before .before .before .before .before .before .before .before .before .before .pair4 .ensures .1) h (c .before .before .before .before .before .before .before .before .before .if5 .left ∙ c .before .before .before .before .before .before .before .before .before .before .far .ensures) .1)
-    (lower _ _ 0 (c .before .before .before .before .before .before .before .before .before .before .before .before .before .before .before .before .before .before .before .before .before .before .before .pair .ensures .0) (c .before .before .before .before .before .before .before .before .before .before .before .before .before .before .before .before .before .before .before .before .before .before .before .pair .ensures .1) (lit< tt) (c .before .before .before .before .before .before .before .before .before .before .before .before .before .before .before .before .before .before .before .before .before .before .if2 .left) .0) (lower _ _ 0 (c .before .before .before .before .before .before .before .before .before .before .before .before .before .before .before .before .before .before .before .before .before .before .before .pair .ensures .0) (c .before .before .before .before .before .before .before .before .before .before .before .before .before .before .before .before .before .before .before .before .before .before .before .pair .ensures .1) (lit< tt) (c .before .before .before .before .before .before .before .before .before .before .before .before .before .before .before .before .before .before .before .before .before .before .if2 .left) .1) (c .before .before .before .before .before .before .before .before .before .before .before .before .before .before .before .before .before .before .before .before .before .before .before .before .before .before .if1 .left)
+returns-4 : tie.Need-returns-4
+returns-4 c = λ e l. bare-one (c .before .before .before .before .before .before .before .before .before .before .before .before .before .before .args .q .now) (c .before .before .before .before .before .before .before .before .before .before .before .before .before .before .args .word) (c .before .before .before .before .before .before .before .before .before .before .before .before .before .before .pre .0) (c .before .before .before .before .before .before .before .before .before .before .before .before .before .before .pre .1) (unmodified (c .before .before .before .before .before .before .before .before .before .before .before .before .before .before .args .q .now) (c .before .before .before .before .before .before .before .selections .ensures) (c .before .before .before .before .before .before .long .ensures) (c .before .before .before .pair .ensures .0) (c .before .before .if3 .left)) (c .before .before .before .before .before .before .before .before .before .before .one-index .ensures (not-false _ (c .before .before .before .before .before .before .before .before .before .if2 .left)) l) (c .typed .ensures e) l (c .before .before .before .before .before .before .before .before .before .before .before .if1 .left)
 
 pub bare-spec : {M : Type 1} → statement M
 bare-spec =
@@ -104,30 +52,15 @@ bare-spec =
     (tie.spec
     shared-slice-read-if1
     returns
-    shared-slice-read-pair
-    shared-slice-read-pair-2
-    pair-requires
+    one-index-requires
     returns-2
-    shared-slice-read-pair-3
-    shared-slice-read-pair-4
-    pair-requires-2
-    returns-3
-    shared-slice-read-pair-5
-    shared-slice-read-pair-6
-    pair-requires-3
-    returns-4
-    shared-slice-read-pair-7
-    shared-slice-read-pair-8
-    pair-requires-4
-    far-requires
-    returns-5
     shared-slice-read-selections
     selections-requires
     long-requires
-    shared-slice-read-pair-9
-    shared-slice-read-pair-10
-    pair-requires-5
-    returns-6
-    shared-slice-read-indexed
-    indexed-requires
-    returns-7)
+    shared-slice-read-pair
+    shared-slice-read-pair-2
+    pair-requires
+    returns-3
+    shared-slice-read-typed
+    typed-requires
+    returns-4)

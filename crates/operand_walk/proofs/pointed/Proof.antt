@@ -1,129 +1,88 @@
-use Prim.Native.Nat.{_*_}
-use mathlib.Core.Logic.{⊎-elim}
+use Prim.Native.Nat.{_/_, _<_}
 use native.Mathlib.Omega.{arith}
 use borrow.Author.Tests.{not-false}
 use Rattle.operand_deep.proofs.SameRows.{rest-long}
-use Rattle.operand_walk.proofs.Alone.{no-own, own-one}
-use Rattle.operand_walk.proofs.Runs.{unsaid, points}
+use Rattle.operand_walk.proofs.Alone.{unsaid, few-indices}
+use Rattle.operand_walk.proofs.Runs.{points}
 use borrow.Author.Needs.{needs}
 use Rattle.operand_walk.proofs.pointed.Statement.{statement}
 use Rattle.operand_walk.proofs.pointed.Tie as tie
 
-add-if1 : tie.Need-add-if1
-add-if1 c = search needs
+in-last-requires : tie.Need-in-last-requires
+in-last-requires c κs = search needs
 
 returns : tie.Need-returns
-returns c = unsaid
+returns c = ((λ h. unsaid h), omega arith)
 
-mul-q : tie.Need-mul-q
-mul-q c = search needs
+shared-slice-read-k : tie.Need-shared-slice-read-k
+shared-slice-read-k c = search needs
 
-mul-q-2 : tie.Need-mul-q-2
-mul-q-2 c = search needs
+add-k : tie.Need-add-k
+add-k c = omega (arith, few-indices (c .before .before .in-last .ensures (c .before .if1 .left)), c .before .if1 .left)
 
-sub-q : tie.Need-sub-q
-sub-q c = search needs
+add-leading : tie.Need-add-leading
+add-leading c = omega (arith, few-indices (c .before .before .in-last .ensures (c .before .if1 .left)), c .before .if1 .left)
 
-part-q-start : tie.Need-part-q-start
-part-q-start c = search needs
-
-part-q-end : tie.Need-part-q-end
-part-q-end c = search needs
-
-shared-slice-read-if2 : tie.Need-shared-slice-read-if2
-shared-slice-read-if2 c = search needs
-
-shared-slice-read-if3 : tie.Need-shared-slice-read-if3
-shared-slice-read-if3 c = search needs
+leading-requires : tie.Need-leading-requires
+leading-requires c κs = (omega (arith, c .before .before .before .before .pre .0), omega (arith, few-indices (c .before .before .in-last .ensures (c .before .if1 .left)), c .before .if1 .left))
 
 returns-2 : tie.Need-returns-2
-returns-2 c = unsaid
-
-nested-requires : tie.Need-nested-requires
-nested-requires c κs = (rest-long (c .before .before .before .before .before .args .operands .now) (16 * c .before .before .before .before .before .args .row) (omega (arith, c .before .before .before .before .before .pre .0)), omega (arith, c .before .before .before .before .before .pre .0), ⊎-elim (λ z. no-own _ _ (z .3) (z .2 .left) .0) (λ z. own-one _ _ (z .1) (z .0 .left) .0) (c .if2 .came))
-
-returns-3 : tie.Need-returns-3
-returns-3 c = unsaid
+returns-2 c = ((λ h. unsaid h), omega arith)
 
 wide-requires : tie.Need-wide-requires
 wide-requires c κs = search needs
 
-add-n : tie.Need-add-n
-add-n c = search needs
+sub-c : tie.Need-sub-c
+sub-c c = search needs
 
-add-if5 : tie.Need-add-if5
-add-if5 c = search needs
+part-c-start : tie.Need-part-c-start
+part-c-start c = search needs
+
+part-c-end : tie.Need-part-c-end
+part-c-end c = search needs
+
+common-requires : tie.Need-common-requires
+common-requires c κs = search needs
+
+returns-3 : tie.Need-returns-3
+returns-3 c = ((λ h. unsaid h), omega arith)
+
+add-bare : tie.Need-add-bare
+add-bare c = search needs
+
+sub-bare : tie.Need-sub-bare
+sub-bare c = omega (arith, c .before .before .before .wide .ensures .0, few-indices (c .before .before .before .before .before .before .before .before .in-last .ensures (c .before .before .before .before .before .before .before .if1 .left)))
+
+bare-requires : tie.Need-bare-requires
+bare-requires c κs = (rest-long (c .before .before .before .before .before .before .before .before .before .before .args .q .now) 16 (c .before .before .before .before .before .before .before .before .before .before .pre .0), c .before .common .ensures (not-false _ (c .if3 .left)))
 
 returns-4 : tie.Need-returns-4
-returns-4 c = unsaid
-
-add-if6 : tie.Need-add-if6
-add-if6 c = search needs
-
-mul-if6 : tie.Need-mul-if6
-mul-if6 c = search needs
-
-add-if6-2 : tie.Need-add-if6-2
-add-if6-2 c = search needs
-
-mul-if6-2 : tie.Need-mul-if6-2
-mul-if6-2 c = search needs
-
-shared-slice-read-if6 : tie.Need-shared-slice-read-if6
-shared-slice-read-if6 c = search needs
+returns-4 c = let o : c .before .before .before .before .before .before .before .before .before .before .in-last .result < 2 = c .before .before .before .before .before .before .before .before .before .if1 .left in
+    let p = c .before .before .before .before .before .before .before .before .before .before .in-last .ensures o in
+    ((λ h l. points (c .before .before .before .before .before .before .before .before .before .before .before .before .args .q .now) (c .before .before .before .before .before .before .before .before .before .before .before .before .args .i / 16) (c .before .before .before .before .before .before .before .before .before .before .before .before .args .word) _ o (c .before .before .before .before .before .before .before .before .before .before .before .before .pre .0) p (c .before .before .before .before .before .wide .ensures .0) (c .before .before .before .before .before .before .before .leading .ensures (not-false _ (c .before .before .before .before .before .before .if2 .left))) (c .before .bare .ensures (c .if4 .taken) (omega (arith, l, few-indices p, c .before .before .before .before .before .wide .ensures .0)))), omega (arith, c .before .before .before .before .before .wide .ensures .0, few-indices p, o))
 
 returns-5 : tie.Need-returns-5
-returns-5 c = unsaid
-
-add-run : tie.Need-add-run
-add-run c = search needs
-
-add-run-2 : tie.Need-add-run-2
-add-run-2 c = search needs
-
-sub-run : tie.Need-sub-run
-sub-run c = search needs
-
-run-requires : tie.Need-run-requires
-run-requires c κs = search needs
-
-returns-6 : tie.Need-returns-6
-returns-6 c = unsaid
-
-returns-7 : tie.Need-returns-7
-returns-7 c = λ h.
-    let o = ⊎-elim (λ z. no-own (c .before .before .before .before .before .before .before .before .if2 .own) _ (z .3) (z .2 .left)) (λ z. own-one (c .before .before .before .before .before .before .before .before .if2 .own) _ (z .1) (z .0 .left)) (c .before .before .before .before .before .before .before .before .if2 .came) in
-    points (c .before .before .before .before .before .before .before .before .before .before .before .before .before .args .operands .now) (c .before .before .before .before .before .before .before .before .before .before .before .before .before .args .row) (c .before .before .before .before .before .before .before .before .before .before .before .before .before .args .word) _ (c .before .before .before .before .before .before .before .before .before .before .before .before .before .args .end) (omega (arith, c .before .before .before .before .before .wide .ensures .0, o .0)) (c .before .before .before .before .before .before .before .before .before .before .before .if1 .left) (c .before .before .before .before .before .wide .ensures .0) (c .before .before .before .before .before .before .before .nested .ensures (not-false _ (c .before .before .before .before .before .before .if4 .left))) (o .1) (c .before .before .if6 .left) (c .if7 .left) (c .before .run .ensures)
+returns-5 c = ((λ h. unsaid h), omega arith)
 
 pub pointed-spec : {M : Type 1} → statement M
 pointed-spec =
     tie.close
     (tie.spec
-    add-if1
+    in-last-requires
     returns
-    mul-q
-    mul-q-2
-    sub-q
-    part-q-start
-    part-q-end
-    shared-slice-read-if2
-    shared-slice-read-if3
+    shared-slice-read-k
+    add-k
+    add-leading
+    leading-requires
     returns-2
-    nested-requires
-    returns-3
     wide-requires
-    add-n
-    add-if5
+    sub-c
+    part-c-start
+    part-c-end
+    common-requires
+    returns-3
+    add-bare
+    sub-bare
+    bare-requires
     returns-4
-    add-if6
-    mul-if6
-    add-if6-2
-    mul-if6-2
-    shared-slice-read-if6
-    returns-5
-    add-run
-    add-run-2
-    sub-run
-    run-requires
-    returns-6
-    returns-7)
+    returns-5)

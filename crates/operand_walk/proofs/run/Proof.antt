@@ -1,19 +1,19 @@
 use Prim.Native.Nat.{_-_}
-use mathlib.Core.Logic.{⊎-elim}
-use mathlib.Core.Path.{_∙_}
+use mathlib.Core.Path.{refl}
 use native.Mathlib.Omega.{arith}
 use borrow.Author.Needs.{needs}
 use borrow.Author.Tests.{not-false}
 use Rattle.operand_deep.proofs.SameRows.{rest-long}
-use Rattle.operand_walk.proofs.Runs.{Going, set-out, near, row-fits, bare-onward, lone-onward, arrived, unsaid}
+use Rattle.operand_walk.proofs.Alone.{unsaid}
+use Rattle.operand_walk.proofs.Runs.{Going, set-out, near, further, rows-there, span, from-here, stands-further, arrived}
 use Rattle.operand_walk.proofs.run.Statement.{statement}
 use Rattle.operand_walk.proofs.run.Tie as tie
 
 abbrev Inv-loop : tie.InvT-loop
-Inv-loop operands row word count end w₀ more₀ i₀ stop w more i = Going operands row word count stop i w more
+Inv-loop operands row word count end w₀ i₀ stop w i = Going operands row word count stop i w 0 0
 
 abbrev μ-loop : tie.MeasureT-loop
-μ-loop operands row word count end w₀ more₀ i₀ stop w more i = stop - i
+μ-loop operands row word count end w₀ i₀ stop w i = stop - i
 
 mul-stop : tie.Need-mul-stop Inv-loop μ-loop
 mul-stop c = search needs
@@ -25,73 +25,70 @@ loop-holds : tie.Need-loop-holds Inv-loop μ-loop
 loop-holds c = set-out _ _ _ _ _ (λ h. omega (arith, c .before .pre .0))
 
 mul-q : tie.Need-mul-q Inv-loop μ-loop
-mul-q c = omega (arith, row-fits (c .before .loop .inv) (c .loop-test .taken) (c .before .before .before .pre .0))
+mul-q c = omega (arith, further (c .before .loop .inv) (c .loop-test .taken), rows-there (c .before .loop .inv) (c .loop-test .taken) (c .before .before .before .pre .0), c .before .before .before .good)
 
 sub-q : tie.Need-sub-q Inv-loop μ-loop
-sub-q c = omega (arith, row-fits (c .before .loop .inv) (c .loop-test .taken) (c .before .before .before .pre .0))
+sub-q c = omega (arith, further (c .before .loop .inv) (c .loop-test .taken), rows-there (c .before .loop .inv) (c .loop-test .taken) (c .before .before .before .pre .0))
 
 part-q-start : tie.Need-part-q-start Inv-loop μ-loop
-part-q-start c = omega (arith, row-fits (c .before .loop .inv) (c .loop-test .taken) (c .before .before .before .pre .0))
+part-q-start c = omega (arith, further (c .before .loop .inv) (c .loop-test .taken), rows-there (c .before .loop .inv) (c .loop-test .taken) (c .before .before .before .pre .0))
 
 part-q-end : tie.Need-part-q-end Inv-loop μ-loop
 part-q-end c = search needs
 
 common-requires : tie.Need-common-requires Inv-loop μ-loop
-common-requires c κs = rest-long (c .before .before .before .before .args .operands .now) (c .before .before .loop .i) (row-fits (c .before .before .loop .inv) (c .before .loop-test .taken) (c .before .before .before .before .pre .0))
+common-requires c κs = rest-long (c .before .before .before .before .args .operands .now) (c .before .before .loop .i) (omega (arith, further (c .before .before .loop .inv) (c .before .loop-test .taken), rows-there (c .before .before .loop .inv) (c .before .loop-test .taken) (c .before .before .before .before .pre .0)))
+
+sub-rows : tie.Need-sub-rows Inv-loop μ-loop
+sub-rows c = search needs
+
+part-rows-start : tie.Need-part-rows-start Inv-loop μ-loop
+part-rows-start c = search needs
+
+part-rows-end : tie.Need-part-rows-end Inv-loop μ-loop
+part-rows-end c = search needs
+
+mixed-requires : tie.Need-mixed-requires Inv-loop μ-loop
+mixed-requires c κs = (span (c .before .before .before .before .before .loop .inv) (c .before .before .before .before .loop-test .taken) (c .before .before .before .before .before .before .before .pre .0) (c .before .before .before .before .before .before .before .pre .1), c .before .before .before .before .before .before .before .pre .2, omega (arith, near (c .before .before .before .before .before .loop .inv) (c .before .before .before .before .before .before .before .pre .1), c .before .before .before .before .before .before .before .pre .2, c .before .before .before .before .before .before .before .pre .3))
 
 returns : tie.Need-returns Inv-loop μ-loop
-returns c = unsaid
+returns c = from-here (c .before .before .before .before .before .before .loop .inv) (c .before .before .before .before .before .loop-test .taken) (c .before .before .before .before .before .before .before .before .pre .2) (c .mixed .ensures)
 
-bare-requires : tie.Need-bare-requires Inv-loop μ-loop
-bare-requires c κs = (rest-long (c .before .before .before .before .before .before .args .operands .now) (c .before .before .before .before .loop .i) (row-fits (c .before .before .before .before .loop .inv) (c .before .before .before .loop-test .taken) (c .before .before .before .before .before .before .pre .0)), c .before .common .ensures (not-false _ (c .if1 .left)))
+usual-requires : tie.Need-usual-requires Inv-loop μ-loop
+usual-requires c κs = (rest-long (c .before .before .before .before .before .before .args .operands .now) (c .before .before .before .before .loop .i) (omega (arith, further (c .before .before .before .before .loop .inv) (c .before .before .before .loop-test .taken), rows-there (c .before .before .before .before .loop .inv) (c .before .before .before .loop-test .taken) (c .before .before .before .before .before .before .pre .0))), c .before .common .ensures (not-false _ (c .if1 .left)), omega (arith, near (c .before .before .before .before .loop .inv) (c .before .before .before .before .before .before .pre .1), c .before .before .before .before .before .before .pre .2, c .before .before .before .before .before .before .pre .3))
 
-add-w : tie.Need-add-w Inv-loop μ-loop
-add-w c = omega (arith, near (c .before .before .before .before .before .before .loop .inv) (c .before .before .before .before .before .before .before .before .pre .1), c .before .before .before .before .before .before .before .before .pre .2, c .before .before .before .before .before .before .before .before .pre .3)
+sub-rows-2 : tie.Need-sub-rows-2 Inv-loop μ-loop
+sub-rows-2 c = search needs
 
-twin-requires : tie.Need-twin-requires Inv-loop μ-loop
-twin-requires c κs = (rest-long (c .before .before .before .before .before .before .before .before .args .operands .now) (c .before .before .before .before .before .before .loop .i) (row-fits (c .before .before .before .before .before .before .loop .inv) (c .before .before .before .before .before .loop-test .taken) (c .before .before .before .before .before .before .before .before .pre .0)), c .before .before .before .common .ensures (not-false _ (c .before .before .if1 .left)))
+part-rows-start-2 : tie.Need-part-rows-start-2 Inv-loop μ-loop
+part-rows-start-2 c = search needs
 
-add-w-2 : tie.Need-add-w-2 Inv-loop μ-loop
-add-w-2 c = omega (arith, near (c .before .before .before .before .before .before .before .before .loop .inv) (c .before .before .before .before .before .before .before .before .before .before .pre .1), c .before .before .before .before .before .before .before .before .before .before .pre .2, c .before .before .before .before .before .before .before .before .before .before .pre .3)
+part-rows-end-2 : tie.Need-part-rows-end-2 Inv-loop μ-loop
+part-rows-end-2 c = search needs
 
-lone-requires : tie.Need-lone-requires Inv-loop μ-loop
-lone-requires c κs = (rest-long (c .before .before .before .before .before .before .before .before .before .before .args .operands .now) (c .before .before .before .before .before .before .before .before .loop .i) (row-fits (c .before .before .before .before .before .before .before .before .loop .inv) (c .before .before .before .before .before .before .before .loop-test .taken) (c .before .before .before .before .before .before .before .before .before .before .pre .0)), c .before .before .before .before .before .common .ensures (not-false _ (c .before .before .before .before .if1 .left)))
+mixed-requires-2 : tie.Need-mixed-requires-2 Inv-loop μ-loop
+mixed-requires-2 c κs = (span (c .before .before .before .before .before .before .before .loop .inv) (c .before .before .before .before .before .before .loop-test .taken) (c .before .before .before .before .before .before .before .before .before .pre .0) (c .before .before .before .before .before .before .before .before .before .pre .1), c .before .before .before .before .before .before .before .before .before .pre .2, omega (arith, near (c .before .before .before .before .before .before .before .loop .inv) (c .before .before .before .before .before .before .before .before .before .pre .1), c .before .before .before .before .before .before .before .before .before .pre .2, c .before .before .before .before .before .before .before .before .before .pre .3))
 
 returns-2 : tie.Need-returns-2 Inv-loop μ-loop
-returns-2 c = unsaid
+returns-2 c = from-here (c .before .before .before .before .before .before .before .before .loop .inv) (c .before .before .before .before .before .before .before .loop-test .taken) (c .before .before .before .before .before .before .before .before .before .before .pre .2) (c .mixed2 .ensures)
 
-add-w-3 : tie.Need-add-w-3 Inv-loop μ-loop
-add-w-3 c = omega (arith, near (c .before .before .before .before .before .before .before .before .before .before .loop .inv) (c .before .before .before .before .before .before .before .before .before .before .before .before .pre .1), c .before .before .before .before .before .before .before .before .before .before .before .before .pre .2, c .before .before .before .before .before .before .before .before .before .before .before .before .pre .3, c .before .lone .ensures .few)
-
-shared-slice-read-extended : tie.Need-shared-slice-read-extended Inv-loop μ-loop
-shared-slice-read-extended c = search needs
-
-extended-requires : tie.Need-extended-requires Inv-loop μ-loop
-extended-requires c κs = search needs
-
-wide-requires : tie.Need-wide-requires Inv-loop μ-loop
-wide-requires c κs = search needs
-
-add-more : tie.Need-add-more Inv-loop μ-loop
-add-more c = omega (arith, near (c .before .before .before .before .before .before .before .before .before .before .before .before .before .loop .inv) (c .before .before .before .before .before .before .before .before .before .before .before .before .before .before .before .pre .1), c .wide .ensures .0, c .before .extended .ensures .1)
+add-w : tie.Need-add-w Inv-loop μ-loop
+add-w c = omega (arith, near (c .before .before .before .before .before .before .loop .inv) (c .before .before .before .before .before .before .before .before .pre .1), c .before .before .before .before .before .before .before .before .pre .2, c .before .before .before .before .before .before .before .before .pre .3, c .before .usual .ensures .1)
 
 add-i : tie.Need-add-i Inv-loop μ-loop
-add-i c = omega (arith, row-fits (c .before .before .before .before .before .before .loop .inv) (c .before .before .before .before .before .loop-test .taken) (c .before .before .before .before .before .before .before .before .pre .0))
+add-i c = omega (arith, further (c .before .before .before .before .before .before .loop .inv) (c .before .before .before .before .before .loop-test .taken), rows-there (c .before .before .before .before .before .before .loop .inv) (c .before .before .before .before .before .loop-test .taken) (c .before .before .before .before .before .before .before .before .pre .0), c .before .before .before .before .before .before .before .before .good)
 
 loop-less : tie.Need-loop-less Inv-loop μ-loop
 loop-less c = omega (arith, c .before .before .before .before .before .loop-test .taken)
 
 loop-again : tie.Need-loop-again Inv-loop μ-loop
-loop-again c = ⊎-elim (λ z. rw (z .1, z .2) (bare-onward (c .before .before .before .before .before .before .loop .inv) (c .before .before .before .before .before .loop-test .taken) (omega arith) (omega arith) (c .before .bare .ensures (z .0 .taken))))
-    (⊎-elim (λ z. rw (z .3, z .4) (bare-onward (c .before .before .before .before .before .before .loop .inv) (c .before .before .before .before .before .loop-test .taken) (omega arith) (omega arith) (λ h. z .1 .ensures (z .2 .taken))))
-    (λ z. rw (z .8, z .9) (lone-onward (c .before .before .before .before .before .before .loop .inv) (c .before .before .before .before .before .loop-test .taken) (z .3 .ensures) (z .4 .left) (z .7 .ensures .0 ∙ z .6 .ensures .0) (omega (arith, z .7 .ensures .0, z .6 .ensures .1)))))
-    (c .if2 .came)
+loop-again c = stands-further (c .before .before .before .before .before .before .loop .inv) (c .before .before .before .before .before .loop-test .taken) (c .before .usual .ensures .1) (c .before .usual .ensures .0 (omega (arith, c .if2 .left)))
 
 returns-3 : tie.Need-returns-3 Inv-loop μ-loop
 returns-3 c = unsaid
 
 returns-4 : tie.Need-returns-4 Inv-loop μ-loop
-returns-4 c = arrived (c .before .before .loop .inv) (c .before .loop-test .left) _ (c .before .before .before .before .pre .2) (c .if5 .left)
+returns-4 c = λ h. arrived (c .before .before .loop .inv) (c .before .loop-test .left) (c .before .before .before .before .pre .1) _ (c .before .before .before .before .pre .2) (c .if3 .left) refl
 
 pub run-spec : {M : Type 1} → statement M
 run-spec =
@@ -107,18 +104,18 @@ run-spec =
     part-q-start
     part-q-end
     common-requires
+    sub-rows
+    part-rows-start
+    part-rows-end
+    mixed-requires
     returns
-    bare-requires
-    add-w
-    twin-requires
-    add-w-2
-    lone-requires
+    usual-requires
+    sub-rows-2
+    part-rows-start-2
+    part-rows-end-2
+    mixed-requires-2
     returns-2
-    add-w-3
-    shared-slice-read-extended
-    extended-requires
-    wide-requires
-    add-more
+    add-w
     add-i
     loop-less
     loop-again

@@ -1,7 +1,10 @@
-use Prim.Native.Nat.{_+_, _-_, _/_}
+use Prim.Native.Nat.{ℕ, _+_, _-_, _/_}
+use mathlib.Core.Logic.{⊎-elim}
+use mathlib.Core.Path.{ap}
 use lib.ListN.{length}
 use native.Mathlib.Omega.{arith}
 use borrow.Author.Needs.{needs}
+use Rattle.instruction_walk.proofs.Short.{told-one-row}
 use Rattle.reading.specs.Walks.{spot, answer}
 use Rattle.reading.proofs.Walks.{Ahead, set-out, arrived, ahead-rows, ahead-near, ahead-on}
 use Rattle.reading.proofs.ahead.Statement.{statement}
@@ -50,34 +53,61 @@ usual-requires : tie.Need-usual-requires Inv-loop μ-loop
 usual-requires c κs = (omega (arith, c .before .before .before .before .before .loop .inv .first-is, c .before .before .before .before .before .before .before .before .before .before .before .pre .0, c .before .before .before .before .loop-test .taken), search needs, c .before .before .before .before .before .before .before .before .before .before .before .pre .3, search needs)
 
 mul-place-2 : tie.Need-mul-place-2 Inv-loop μ-loop
-mul-place-2 c = omega (arith, ahead-near (c .before .before .before .before .before .before .before .loop .inv) (omega (arith, c .before .before .before .before .before .before .before .loop .inv .first-is, c .before .before .before .before .before .before .before .before .before .before .before .before .before .pre .0, c .before .before .before .before .before .before .loop-test .taken)) (c .before .before .before .before .wide .ensures) (c .before .before .before .if1 .left) (c .before .usual .ensures (omega (arith, c .if2 .left))) (λ j. omega (arith, c .before .before .before .before .before .before .before .before .before .before .before .before .shared-slice-known .given j)))
+mul-place-2 c = omega (arith, ahead-near (c .before .before .before .before .before .before .before .before .loop .inv) (omega (arith, c .before .before .before .before .before .before .before .before .loop .inv .first-is, c .before .before .before .before .before .before .before .before .before .before .before .before .before .before .pre .0, c .before .before .before .before .before .before .before .loop-test .taken)) (c .before .before .before .before .before .wide .ensures) (c .before .before .before .before .if1 .left) (c .before .before .usual .ensures (omega (arith, c .before .if2 .left))) (λ j. omega (arith, c .before .before .before .before .before .before .before .before .before .before .before .before .before .shared-slice-known .given j)))
 
 add-place : tie.Need-add-place Inv-loop μ-loop
-add-place c = omega (arith, ahead-near (c .before .before .before .before .before .before .before .loop .inv) (omega (arith, c .before .before .before .before .before .before .before .loop .inv .first-is, c .before .before .before .before .before .before .before .before .before .before .before .before .before .pre .0, c .before .before .before .before .before .before .loop-test .taken)) (c .before .before .before .before .wide .ensures) (c .before .before .before .if1 .left) (c .before .usual .ensures (omega (arith, c .if2 .left))) (λ j. omega (arith, c .before .before .before .before .before .before .before .before .before .before .before .before .shared-slice-known .given j)))
+add-place c = omega (arith, ahead-near (c .before .before .before .before .before .before .before .before .loop .inv) (omega (arith, c .before .before .before .before .before .before .before .before .loop .inv .first-is, c .before .before .before .before .before .before .before .before .before .before .before .before .before .before .pre .0, c .before .before .before .before .before .before .before .loop-test .taken)) (c .before .before .before .before .before .wide .ensures) (c .before .before .before .before .if1 .left) (c .before .before .usual .ensures (omega (arith, c .before .if2 .left))) (λ j. omega (arith, c .before .before .before .before .before .before .before .before .before .before .before .before .before .shared-slice-known .given j)))
 
 add-wide-2 : tie.Need-add-wide-2 Inv-loop μ-loop
-add-wide-2 c = omega (arith, c .before .before .before .before .before .before .loop-test .taken, c .before .before .before .before .before .before .before .before .before .before .before .before .before .good)
+add-wide-2 c = omega (arith, c .before .before .before .before .before .before .before .loop-test .taken, c .before .before .before .before .before .before .before .before .before .before .before .before .before .before .good)
 
 mul-wide-2 : tie.Need-mul-wide-2 Inv-loop μ-loop
-mul-wide-2 c = omega (arith, c .before .before .before .before .before .before .before .before .before .before .before .before .before .good)
+mul-wide-2 c = omega (arith, c .before .before .before .before .before .before .before .before .before .before .before .before .before .before .good)
 
 shared-slice-read-wide-2 : tie.Need-shared-slice-read-wide-2 Inv-loop μ-loop
-shared-slice-read-wide-2 c = omega (arith, c .before .before .before .before .before .before .before .before .loop .inv .first-is, c .before .before .before .before .before .before .before .before .before .before .before .before .before .before .pre .0, c .before .before .before .before .before .before .before .loop-test .taken)
+shared-slice-read-wide-2 c = omega (arith, c .before .before .before .before .before .before .before .before .before .loop .inv .first-is, c .before .before .before .before .before .before .before .before .before .before .before .before .before .before .before .pre .0, c .before .before .before .before .before .before .before .before .loop-test .taken)
 
 wide-requires-2 : tie.Need-wide-requires-2 Inv-loop μ-loop
 wide-requires-2 c κs = search needs
 
 add-row : tie.Need-add-row Inv-loop μ-loop
-add-row c = omega (arith, ahead-rows (c .before .before .before .before .before .before .before .before .before .loop .inv) (omega (arith, c .before .before .before .before .before .before .before .before .before .loop .inv .first-is, c .before .before .before .before .before .before .before .before .before .before .before .before .before .before .before .pre .0, c .before .before .before .before .before .before .before .before .loop-test .taken)) (c .before .before .before .before .before .before .wide .ensures) (c .before .before .before .before .before .if1 .left) (c .before .before .before .usual .ensures (omega (arith, c .before .before .if2 .left))), c .wide2 .ensures, c .before .before .before .before .before .before .before .before .before .before .before .before .before .before .before .good)
+add-row c = omega (arith, ahead-rows (c .before .before .before .before .before .before .before .before .before .before .loop .inv) (omega (arith, c .before .before .before .before .before .before .before .before .before .before .loop .inv .first-is, c .before .before .before .before .before .before .before .before .before .before .before .before .before .before .before .before .pre .0, c .before .before .before .before .before .before .before .before .before .loop-test .taken)) (c .before .before .before .before .before .before .before .wide .ensures) (c .before .before .before .before .before .before .if1 .left) (c .before .before .before .before .usual .ensures (omega (arith, c .before .before .before .if2 .left))), c .wide2 .ensures, c .before .before .before .before .before .before .before .before .before .before .before .before .before .before .before .before .good)
+
+add-row-2 : tie.Need-add-row-2 Inv-loop μ-loop
+add-row-2 c = omega (arith, ahead-rows (c .before .before .before .before .before .before .before .before .before .before .loop .inv) (omega (arith, c .before .before .before .before .before .before .before .before .before .before .loop .inv .first-is, c .before .before .before .before .before .before .before .before .before .before .before .before .before .before .before .before .pre .0, c .before .before .before .before .before .before .before .before .before .loop-test .taken)) (c .before .before .before .before .before .before .before .wide .ensures) (c .before .before .before .before .before .before .if1 .left) (c .before .before .before .before .usual .ensures (omega (arith, c .before .before .before .if2 .left))), c .wide2 .ensures, c .before .before .before .before .before .before .before .before .before .before .before .before .before .before .before .before .good)
+
+mul-place-3 : tie.Need-mul-place-3 Inv-loop μ-loop
+mul-place-3 c = omega (arith, ahead-near (c .before .before .before .before .before .before .before .before .loop .inv) (omega (arith, c .before .before .before .before .before .before .before .before .loop .inv .first-is, c .before .before .before .before .before .before .before .before .before .before .before .before .before .before .pre .0, c .before .before .before .before .before .before .before .loop-test .taken)) (c .before .before .before .before .before .wide .ensures) (c .before .before .before .before .if1 .left) (told-one-row (c .if3 .left) (c .before .before .usual .ensures (omega (arith, c .before .if2 .left)))) (λ j. omega (arith, c .before .before .before .before .before .before .before .before .before .before .before .before .before .shared-slice-known .given j)))
+
+add-place-2 : tie.Need-add-place-2 Inv-loop μ-loop
+add-place-2 c = omega (arith, ahead-near (c .before .before .before .before .before .before .before .before .loop .inv) (omega (arith, c .before .before .before .before .before .before .before .before .loop .inv .first-is, c .before .before .before .before .before .before .before .before .before .before .before .before .before .before .pre .0, c .before .before .before .before .before .before .before .loop-test .taken)) (c .before .before .before .before .before .wide .ensures) (c .before .before .before .before .if1 .left) (told-one-row (c .if3 .left) (c .before .before .usual .ensures (omega (arith, c .before .if2 .left)))) (λ j. omega (arith, c .before .before .before .before .before .before .before .before .before .before .before .before .before .shared-slice-known .given j)))
+
+add-wide-3 : tie.Need-add-wide-3 Inv-loop μ-loop
+add-wide-3 c = omega (arith, c .before .before .before .before .before .before .before .loop-test .taken, c .before .before .before .before .before .before .before .before .before .before .before .before .before .before .good)
+
+mul-wide-3 : tie.Need-mul-wide-3 Inv-loop μ-loop
+mul-wide-3 c = omega (arith, c .before .before .before .before .before .before .before .before .before .before .before .before .before .before .good)
+
+shared-slice-read-wide-3 : tie.Need-shared-slice-read-wide-3 Inv-loop μ-loop
+shared-slice-read-wide-3 c = omega (arith, c .before .before .before .before .before .before .before .before .before .loop .inv .first-is, c .before .before .before .before .before .before .before .before .before .before .before .before .before .before .before .pre .0, c .before .before .before .before .before .before .before .before .loop-test .taken)
+
+wide-requires-3 : tie.Need-wide-requires-3 Inv-loop μ-loop
+wide-requires-3 c κs = search needs
+
+add-row-3 : tie.Need-add-row-3 Inv-loop μ-loop
+add-row-3 c = omega (arith, ahead-rows (c .before .before .before .before .before .before .before .before .before .before .loop .inv) (omega (arith, c .before .before .before .before .before .before .before .before .before .before .loop .inv .first-is, c .before .before .before .before .before .before .before .before .before .before .before .before .before .before .before .before .pre .0, c .before .before .before .before .before .before .before .before .before .loop-test .taken)) (c .before .before .before .before .before .before .before .wide .ensures) (c .before .before .before .before .before .before .if1 .left) (told-one-row (c .before .before .if3 .left) (c .before .before .before .before .usual .ensures (omega (arith, c .before .before .before .if2 .left)))), c .wide3 .ensures, c .before .before .before .before .before .before .before .before .before .before .before .before .before .before .before .before .good)
 
 add-i : tie.Need-add-i Inv-loop μ-loop
-add-i c = omega (arith, c .before .before .before .before .before .before .before .before .before .loop .inv .first-is, c .before .before .before .before .before .before .before .before .before .before .before .before .before .before .before .pre .0, c .before .before .before .before .before .before .before .before .loop-test .taken, c .before .before .before .before .before .before .before .before .before .before .before .before .before .before .before .good)
+add-i c = omega (arith, c .before .before .before .before .before .before .before .before .loop .inv .first-is, c .before .before .before .before .before .before .before .before .before .before .before .before .before .before .pre .0, c .before .before .before .before .before .before .before .loop-test .taken, c .before .before .before .before .before .before .before .before .before .before .before .before .before .before .good)
 
 loop-less : tie.Need-loop-less Inv-loop μ-loop
-loop-less c = omega (arith, c .before .before .before .before .before .before .before .before .loop-test .taken)
+loop-less c = omega (arith, c .before .before .before .before .before .before .before .loop-test .taken)
 
 loop-again : tie.Need-loop-again Inv-loop μ-loop
-loop-again c = ahead-on (c .before .before .before .before .before .before .before .before .before .loop .inv) (omega (arith, c .before .before .before .before .before .before .before .before .before .loop .inv .first-is, c .before .before .before .before .before .before .before .before .before .before .before .before .before .before .before .pre .0, c .before .before .before .before .before .before .before .before .loop-test .taken)) (c .before .before .before .before .before .before .wide .ensures) (c .before .before .before .before .before .if1 .left) (c .before .before .before .usual .ensures (omega (arith, c .before .before .if2 .left))) (c .wide2 .ensures) (λ j. omega (arith, c .before .before .before .before .before .before .before .before .before .before .before .before .before .before .shared-slice-known .given j))
+loop-again c = ⊎-elim
+    (λ z. rw (z .3, z .4) (ahead-on (c .before .before .before .before .before .before .before .before .loop .inv) (omega (arith, c .before .before .before .before .before .before .before .before .loop .inv .first-is, c .before .before .before .before .before .before .before .before .before .before .before .before .before .before .pre .0, c .before .before .before .before .before .before .before .loop-test .taken)) (c .before .before .before .before .before .wide .ensures) (c .before .before .before .before .if1 .left) (c .before .before .usual .ensures (omega (arith, c .before .if2 .left))) (ap (λ (o : ℕ). o + _) (z .2 .ensures)) (λ j. omega (arith, c .before .before .before .before .before .before .before .before .before .before .before .before .before .shared-slice-known .given j))))
+    (λ z. rw (z .3, z .4) (ahead-on (c .before .before .before .before .before .before .before .before .loop .inv) (omega (arith, c .before .before .before .before .before .before .before .before .loop .inv .first-is, c .before .before .before .before .before .before .before .before .before .before .before .before .before .before .pre .0, c .before .before .before .before .before .before .before .loop-test .taken)) (c .before .before .before .before .before .wide .ensures) (c .before .before .before .before .if1 .left) (told-one-row (z .0 .left) (c .before .before .usual .ensures (omega (arith, c .before .if2 .left)))) (z .2 .ensures) (λ j. omega (arith, c .before .before .before .before .before .before .before .before .before .before .before .before .before .shared-slice-known .given j))))
+    (c .if3 .came)
 
 walk-to-requires : tie.Need-walk-to-requires Inv-loop μ-loop
 walk-to-requires c κs = search needs
@@ -110,6 +140,14 @@ ahead-spec =
     shared-slice-read-wide-2
     wide-requires-2
     add-row
+    add-row-2
+    mul-place-3
+    add-place-2
+    add-wide-3
+    mul-wide-3
+    shared-slice-read-wide-3
+    wide-requires-3
+    add-row-3
     add-i
     loop-less
     loop-again
