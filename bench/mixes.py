@@ -1,7 +1,7 @@
 """Writes a chunk by one of four mixes of instructions and operands: mixes.py MIX DWORDS FILE, where MIX is pixel, vertex, compute or long.
-They stand beside the chunk of shaders.py: no shape of the code was chosen by what they count. A vertex shader of this mix has an index that
-is an operand in 3 of 100 sources, as one that moves points by bones has; the others in 1 of 100. The chunk is the same for the same
-arguments."""
+They stand beside the chunk of shaders.py, so that no shape of the code is chosen by that one alone. A vertex shader of this mix has an
+index that is an operand in 3 of 100 sources, as one that moves points by bones has; the others in 1 of 100. The chunk is the same for the
+same arguments."""
 import random
 import struct
 import sys
