@@ -183,7 +183,7 @@ fit_table r w none f n = empty
 fit_table r w (plain x c) f n = fit_table r (w + length x) c (unfold op.dwords in fit_back x (op.dwords c) f) (unfold tree_rows tree_words op.dwords in record { rows = n.rows; words = omega (arith, n.words, length-append x (tree_words c)); dwords = omega (arith, n.dwords, length-append x (op.dwords c)) })
 fit_table r w (node t e m a b c) f n =
     let p = node_parts r w t e m a b c f n in
-    fit_append (fit_append (fit_append (fit_row r w t e m a b c p.token n) (fit_table _ _ a p.fit-a p.first)) (fit_table _ _ b p.fit-b p.second)) (fit_table _ _ c p.fit-c p.third)
+    fit_append (fit_append (fit_append (fit_row r w t e m a b c p.token n) (fit_table (r + 1) (w + length m) a p.fit-a p.first)) (fit_table (r + 1 + tree_rows a) (w + length m + length (tree_words a)) b p.fit-b p.second)) (fit_table (r + 1 + tree_rows a + tree_rows b) (w + length m + length (tree_words a) + length (tree_words b)) c p.fit-c p.third)
 
 fit_parts : (r w : ℕ) (ps : List Tree) → Fit (op.parts_dwords ps) → r + parts_rows ps < 2 ^ 32 → w + length (parts_words ps) < 2 ^ 32 → length (op.parts_dwords ps) < 2 ^ 32 → Fit (parts_table r w ps)
 unfolding op.parts_dwords parts_rows parts_words parts_table
