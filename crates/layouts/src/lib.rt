@@ -8,7 +8,7 @@ ghost use Rattle.layouts.specs.Table.{row_of, Right, Declares, shape_of, plain_s
 
 // What stands beside a code and after its token. Field bits: width bits from bit first on; where bounded is above 0, that many bits from
 // bit 11 on hold lo to hi. Then dwords, operands, small dwords, dwords, dwords of model 5.1 alone, a list counted by list bits, and a tail.
-#[derive(Drop)]
+#[derive(Clone, Copy, Drop)]
 pub struct Shape {
     pub kind: u32,
     pub first: u32,

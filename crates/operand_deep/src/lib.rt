@@ -25,7 +25,7 @@ enum Step {
 }
 
 // The row and the word where an index stands.
-#[derive(Drop)]
+#[derive(Clone, Copy, Drop)]
 struct Place(usize, usize);
 
 // The dword and the extension, 0 for none, that a row would be of, both exact; or it is of none.
