@@ -6,7 +6,7 @@ ghost use Rattle.format.specs.Rows as rows;
 ghost use Rattle.operand_rows.specs.Writes as w;
 
 // The rows and words that were written, and the dwords that were taken.
-#[derive(Drop)]
+#[derive(Clone, Copy, Drop)]
 pub struct Sums {
     pub rows: usize,
     pub words: usize,
