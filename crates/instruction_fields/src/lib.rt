@@ -133,7 +133,7 @@ pub fn head(part: &[u8], s: Shape, t: u32) -> Skip
 }
 
 // What a token says beside its code.
-#[derive(Drop)]
+#[derive(Clone, Copy, Drop)]
 pub struct Fields {
     pub field: u32,
     pub saturate: u32,

@@ -21,7 +21,7 @@ use Rattle.format.proofs.Each.{absent}
 use Rattle.layouts.specs.declared.Shape.{Shape}
 use Rattle.layouts.specs.Shapes.{Laid, meant, field_of, items_of}
 use Rattle.layouts.specs.Table.{row_of, shape_of, Declares}
-use Rattle.layouts.proofs.Others.{by_count, custom, phase, opaque}
+use Rattle.layouts.proofs.Others.{by_count_lem, custom, phase, opaque}
 use Rattle.tokens.specs.Chains.{ends}
 use Rattle.tokens.specs.declared.Skip.{Skip}
 use Rattle.tokens.specs.declared.Skip.TheVariants.{To}
@@ -82,7 +82,7 @@ undeclared_bare c {s} l h e = go (eqb c 53) refl (leb 113 c && ltb c 117) refl
     go : (a : Bool) → eqb c 53 ≡ a → (b : Bool) → (leb 113 c && ltb c 117) ≡ b → s.operands ≡ 0
     go true p b q = as_many l (custom c p)
     go false p true q = as_many l (phase c q)
-    go false p false q = as_many l (opaque c (by_count c (omega arith) p q) h)
+    go false p false q = as_many l (opaque c (by_count_lem c (omega arith) p q) h)
 
 long_bare : (t : ℕ) {s : Shape} → Laid (code t) s → long t ≡ true → s.operands ≡ 0
 unfolding long layout numbers within in_table operands_in
