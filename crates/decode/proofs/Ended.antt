@@ -12,9 +12,9 @@ use Rattle.format.specs.declared.Refusal.TheVariants.{OperandCount, Layout}
 use Rattle.format.specs.declared.Answer.{Answer}
 use Rattle.format.specs.declared.Answer.TheVariants.{Accepted, Refused}
 use Rattle.format.specs.Dwords.{dwords_of}
-use Rattle.format.specs.Framing.{Framed, whole, zeroLength, pastEnd, instruction, frame}
+use Rattle.format.specs.Framing.{Framed, whole, zero_length, past_end, instruction, frame}
 use Rattle.format.specs.Instructions.{Instruction, Reading, ok, miscounted, inexact, read}
-use Rattle.format.specs.Refusals.{Outcome, refused, accepted, number, either, unless, firstPass, secondPass, readings, is_model51, body, answer, after}
+use Rattle.format.specs.Refusals.{Outcome, refused, accepted, number, either, unless, first_pass, second_pass, readings, is_model51, body, answer, after}
 use Rattle.format.specs.Rows.{parts_rows, parts_words, parts_table, instruction_rows, all_parts}
 use Rattle.format.proofs.Dwords.{impossible, length_dwords}
 use Rattle.format.proofs.Refusals.{unless_accepted, accepted_fields, body_accepted, reads_dwords}
@@ -40,19 +40,19 @@ either_late miscounted a b d p q r = q
 either_late inexact a b d p q r = r
 
 module _ (c : ℕ) (m : Bool) where
-  first-late : (at : ℕ) (f : Framed) → Late (firstPass c m at f)
-  unfolding firstPass
-  first-late at whole = tt
-  first-late at zeroLength = refl
-  first-late at pastEnd = refl
-  first-late at (instruction i f) = let n : Option Refusal = firstPass c m (at + length i) f in either_late (read c m i) n (some (OperandCount (4 * at))) n (first-late (at + length i) f) refl (first-late (at + length i) f)
+  first_late : (at : ℕ) (f : Framed) → Late (first_pass c m at f)
+  unfolding first_pass
+  first_late at whole = tt
+  first_late at zero_length = refl
+  first_late at past_end = refl
+  first_late at (instruction i f) = let n : Option Refusal = first_pass c m (at + length i) f in either_late (read c m i) n (some (OperandCount (4 * at))) n (first_late (at + length i) f) refl (first_late (at + length i) f)
 
-  second-late : (at : ℕ) (f : Framed) → Late (secondPass c m at f)
-  unfolding secondPass
-  second-late at whole = tt
-  second-late at zeroLength = tt
-  second-late at pastEnd = tt
-  second-late at (instruction i f) = let n : Option Refusal = secondPass c m (at + length i) f in either_late (read c m i) n n (some (Layout (4 * at))) (second-late (at + length i) f) (second-late (at + length i) f) refl
+  second_late : (at : ℕ) (f : Framed) → Late (second_pass c m at f)
+  unfolding second_pass
+  second_late at whole = tt
+  second_late at zero_length = tt
+  second_late at past_end = tt
+  second_late at (instruction i f) = let n : Option Refusal = second_pass c m (at + length i) f in either_late (read c m i) n n (some (Layout (4 * at))) (second_late (at + length i) f) (second_late (at + length i) f) refl
 
 unless_late : (a b : Option Refusal) (v : ℕ) (l : List Instruction) {r : Refusal} → Late a → Late b → unless a (unless b (accepted v l)) ≡ refused r → ltb 10 (number r) ≡ true
 unless_late (some x) b v l {r = r} p q e = let z : x ≡ r = cc in subst (λ (k : Refusal). ltb 10 (number k) ≡ true) z p
@@ -64,7 +64,7 @@ unfolding body
 body_late c ds e =
     let m : Bool = is_model51 (get_or ds 0 0) in
     let f : Framed = frame (length ds) (drop 2 ds) in
-    unless_late (firstPass c m 2 f) (secondPass c m 2 f) (get_or ds 0 0) (readings c m f) (first-late c m 2 f) (second-late c m 2 f) e
+    unless_late (first_pass c m 2 f) (second_pass c m 2 f) (get_or ds 0 0) (readings c m f) (first_late c m 2 f) (second_late c m 2 f) e
 
 zeroed : (rows : List Instruction → List ℕ) {o : Outcome} {r : Refusal} → o ≡ refused r → ltb 10 (number r) ≡ true → (pool pool' : List ℕ) → pool' ≡ replicate (length pool) 0 → pool' ≡ after rows o pool
 unfolding after
@@ -85,16 +85,16 @@ module _ (c : ℕ) (ds : List ℕ) {m : Bool} (q : m ≡ is_model51 (get_or ds 0
 
   -- neither pass refuses a chunk that is accepted, and what was read is the stream's
   record Both (l : List Instruction) : Type 0 where
-    first : firstPass c m 2 (stream c m ds 2) ≡ none
-    second : secondPass c m 2 (stream c m ds 2) ≡ none
+    first : first_pass c m 2 (stream c m ds 2) ≡ none
+    second : second_pass c m 2 (stream c m ds 2) ≡ none
     same : l ≡ rest c m ds 2
 
   both : {v : ℕ} {l : List Instruction} → body c ds ≡ accepted v l → Both l
   unfolding body
   both e =
       let e' = (rw (← q) at e) in
-      let a = unless_accepted (firstPass c m 2 (stream c m ds 2)) e' in
-      let b = unless_accepted (secondPass c m 2 (stream c m ds 2)) a.1 in
+      let a = unless_accepted (first_pass c m 2 (stream c m ds 2)) e' in
+      let b = unless_accepted (second_pass c m 2 (stream c m ds 2)) a.1 in
       record { first = a.0; second = b.0; same = sym (accepted_fields b.1).1 }
 
   hold : (rows : List Instruction → List ℕ) {v : ℕ} {l : List Instruction} → body c ds ≡ accepted v l → (pool pool' : List ℕ) → pool' ≡ rows l ++ drop (length (rows l)) pool → pool' ≡ after rows (body c ds) pool

@@ -22,7 +22,7 @@ use Rattle.encode.specs.declared.Spot.{Spot}
 use Rattle.reading.specs.Walks.{onward}
 use Rattle.reading.proofs.Walks.{Next, next_of, cut_words, ended_list}
 use Rattle.format.specs.Encoder.{chunk_of}
-use Rattle.reading.specs.Confirm.{confirmAll}
+use Rattle.reading.specs.Confirm.{confirm_all}
 use Rattle.encode.specs.Emits.{walked, Left, start, Finished, Whole}
 
 -- the next instruction
@@ -125,7 +125,7 @@ module _ {is rs ws : List ℕ} {d : ℕ} (out : List ℕ) {out₁ out₂ : List 
           whole = y.whole;
           first_whole = refl;
           operand_whole = refl;
-          confirmed = ap (λ (n : ℕ). confirmAll c m n 8 is rs ws 0 0) z ∙ y.confirmed;
+          confirmed = ap (λ (n : ℕ). confirm_all c m n 8 is rs ws 0 0) z ∙ y.confirmed;
           word_within = omega arith;
           room = omega (arith, y.room, y.dwords_are, long₂);
           ends = refl;

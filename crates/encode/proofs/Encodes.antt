@@ -23,7 +23,7 @@ use Rattle.format.proofs.Encoder.{Counts, counts}
 use Rattle.output.specs.Puts.{put}
 use Rattle.reading.specs.declared.Read.{Read}
 use Rattle.reading.specs.declared.Read.TheVariants.{Of, No}
-use Rattle.reading.specs.Confirm.{untold, confirmAll, confirm_chunk}
+use Rattle.reading.specs.Confirm.{untold, confirm_all, confirm_chunk}
 use Rattle.reading.specs.Walks.{lent, read_of}
 use Rattle.reading.proofs.Walks.{cond_just}
 use Rattle.reading.proofs.All.{all_sound}
@@ -76,7 +76,7 @@ module _ (v : ℕ) (is os ws : List ℕ) (i o w : ℕ) (out : List ℕ) {d c : �
         let k : length (take (x * 16 - 0) is) / 16 ≡ i = ap (λ (j : ℕ). length (take j is) / 16) zx ∙ omega (arith, length-take-le (16 * i) is y.instructions_inside) in
         record {
           whole = omega (arith, ap (λ (j : ℕ). length (take j is)) zx, length-take-le (16 * i) is y.instructions_inside);
-          confirmed = (λ j. confirmAll c m (k j) 8 (take (zx j) is) (take (zy j) os) (take (zn j) ws) 0 0) ∙ y.confirmed;
+          confirmed = (λ j. confirm_all c m (k j) 8 (take (zx j) is) (take (zy j) os) (take (zn j) ws) 0 0) ∙ y.confirmed;
           dwords_are = y.dwords_are;
           fits = omega (arith, y.small);
           room = omega arith;
@@ -137,7 +137,7 @@ module _ (e v i o w : ℕ) (is os ws out : List ℕ) where
     tested = not (past_pool q) && untold (first_of (header_tests e SHEX 8 v 2))
 
     abbrev all : Option (List Instruction)
-    all = confirmAll (ceiling e) (is_model51 v) i 8 (take (16 * i) is) (take (16 * o) os) (take w ws) 0 0
+    all = confirm_all (ceiling e) (is_model51 v) i 8 (take (16 * i) is) (take (16 * o) os) (take w ws) 0 0
 
     opened : (tested ≡ true) × (all ≡ just list)
     unfolding confirm_chunk held

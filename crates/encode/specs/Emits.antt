@@ -7,7 +7,7 @@ use Rattle.reading.specs.declared.Walk.{Walk}
 use Rattle.format.specs.declared.Encoded.{Encoded}
 use Rattle.encode.specs.declared.Spot.{Spot}
 use Rattle.format.specs.Encoder.{chunk_of, into, encode_answer, output_after}
-use Rattle.reading.specs.Confirm.{confirmAll}
+use Rattle.reading.specs.Confirm.{confirm_all}
 use Rattle.reading.specs.Walks.{onward}
 
 -- a number of whole rows
@@ -50,7 +50,7 @@ Finished is rs ws out out' = (final : List ℕ) → Left is rs ws start out fina
 -- the instructions of a chunk of so many dwords are confirmed, and there is room for it
 pub record Whole (is rs ws : List ℕ) (dwords n ceiling : ℕ) (model51 : Bool) (list : List Instruction) : Type 0 where
   pub whole : WholeRows (length is)
-  pub confirmed : confirmAll ceiling model51 (length is / 16) 8 is rs ws 0 0 ≡ just list
+  pub confirmed : confirm_all ceiling model51 (length is / 16) 8 is rs ws 0 0 ≡ just list
   pub dwords_are : dwords ≡ 2 + length (all_dwords list)
   pub fits : dwords < 2 ^ 32
   pub room : 4 * dwords ≤ n
@@ -70,7 +70,7 @@ pub record Counted (is os ws : List ℕ) (i o w dwords ceiling : ℕ) (model51 :
   pub instructions_inside : 16 * i ≤ length is
   pub operands_inside : 16 * o ≤ length os
   pub words_inside : w ≤ length ws
-  pub confirmed : confirmAll ceiling model51 i 8 (take (16 * i) is) (take (16 * o) os) (take w ws) 0 0 ≡ just list
+  pub confirmed : confirm_all ceiling model51 i 8 (take (16 * i) is) (take (16 * o) os) (take w ws) 0 0 ≡ just list
   pub dwords_are : dwords ≡ 2 + length (all_dwords list)
   pub small : dwords ≤ 262_144
 

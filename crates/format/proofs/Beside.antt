@@ -63,9 +63,9 @@ holds_own : (at₀ r w : ℕ) (i : Instruction) → entry_of at₀ r w i holds e
 holds_own at₀ r w i = let p = row_places at₀ r w i in rw (p.0, p.1) (entry_moved at₀ r w i)
 
 module _ (chunk : List ℕ) where
-  unread-entry : (at₀ r w : ℕ) (ds rest : List ℕ) → drop (at₀ / 4) (dwords_of chunk) ≡ ds ++ rest → Unread chunk (entry_of at₀ r w (unread ds))
+  unread_entry : (at₀ r w : ℕ) (ds rest : List ℕ) → drop (at₀ / 4) (dwords_of chunk) ≡ ds ++ rest → Unread chunk (entry_of at₀ r w (unread ds))
   unfolding instruction_row unread_row dwords_at parts parts_table parts_words tree_table tree_words
-  unread-entry at₀ r w ds rest z =
+  unread_entry at₀ r w ds rest z =
       let e : take (length ds) (drop (at₀ / 4) (dwords_of chunk)) ≡ ds = rw z (take_at ds rest (length ds) refl) in
       record { row = rw e; operands = refl; words = rw (e, append-nil, append-nil ds) }
 
@@ -75,7 +75,7 @@ module _ (chunk : List ℕ) where
       record {
         boundaries = f.both ∙ rw (← (lower_dwords lo i)) (sym (front at₀ r' w' (lower lo i)).both);
         known = λ h. rw (lower_known lo i (rw f.code at h)) (entry_of at₀ 0 0 i, holds_own at₀ r w i, holds_own at₀ r' w' i);
-        unknown = λ h. rw (lower_unknown lo i (rw f.code at h)) (unread-entry at₀ r' w' (dwords i) rest z);
+        unknown = λ h. rw (lower_unknown lo i (rw f.code at h)) (unread_entry at₀ r' w' (dwords i) rest z);
       }
 
   -- ---- all of them
@@ -120,17 +120,17 @@ header_same e e' four chunk a b = rw (le-ltb 3 e a, le-ltb 3 e' b)
 
 module _ (older newer four : ℕ) (chunk : List ℕ) (p p' : Pools) (h : older ≤ newer) (k : newer ≤ 3) (room-p : room chunk p ≡ none) (room-p' : room chunk p' ≡ none) where
   -- with room, only the body may differ
-  decode-body : (e : ℕ) (q : Pools) → room chunk q ≡ none → decode e four chunk q ≡ unless (header e four chunk) (body (ceiling e) (dwords_of chunk))
+  decode_body : (e : ℕ) (q : Pools) → room chunk q ≡ none → decode e four chunk q ≡ unless (header e four chunk) (body (ceiling e) (dwords_of chunk))
   unfolding decode
-  decode-body e q z = rw z
+  decode_body e q z = rw z
 
-  older-accepts : {v : ℕ} {l : List Instruction} → decode newer four chunk p ≡ accepted v l → decode older four chunk p' ≡ accepted v (map (lower (ceiling older)) l)
-  older-accepts e =
-      let a = unless_accepted (header newer four chunk) (sym (decode-body newer p room-p) ∙ e) in
-      decode-body older p' room-p' ∙ rw (header_same older newer four chunk (omega arith) k, a.0) (body_accepts (ceiling older) (ceiling newer) (ceilings older newer h k) (dwords_of chunk) a.1)
+  older_accepts : {v : ℕ} {l : List Instruction} → decode newer four chunk p ≡ accepted v l → decode older four chunk p' ≡ accepted v (map (lower (ceiling older)) l)
+  older_accepts e =
+      let a = unless_accepted (header newer four chunk) (sym (decode_body newer p room-p) ∙ e) in
+      decode_body older p' room-p' ∙ rw (header_same older newer four chunk (omega arith) k, a.0) (body_accepts (ceiling older) (ceiling newer) (ceilings older newer h k) (dwords_of chunk) a.1)
 
-  older-refuses : {r : Refusal} → decode newer four chunk p ≡ refused r → Known (ceiling older) (dwords_of chunk) r → decode older four chunk p' ≡ refused r
-  older-refuses {r} e n = decode-body older p' room-p' ∙ rw (header_same older newer four chunk (omega arith) k) (go (header newer four chunk) (sym (decode-body newer p room-p) ∙ e))
+  older_refuses : {r : Refusal} → decode newer four chunk p ≡ refused r → Known (ceiling older) (dwords_of chunk) r → decode older four chunk p' ≡ refused r
+  older_refuses {r} e n = decode_body older p' room-p' ∙ rw (header_same older newer four chunk (omega arith) k) (go (header newer four chunk) (sym (decode_body newer p room-p) ∙ e))
     where
       go : (o : Option Refusal) → unless o (body (ceiling newer) (dwords_of chunk)) ≡ refused r → unless o (body (ceiling older) (dwords_of chunk)) ≡ refused r
       go none e = body_refuses (ceiling older) (ceiling newer) (ceilings older newer h k) (dwords_of chunk) e n
@@ -142,7 +142,7 @@ module _ (older newer four : ℕ) (chunk : List ℕ) (p p' : Pools) (h : older �
       let r = answer_read (decode newer four chunk p) e in
       let l = map (lower (ceiling older)) r.list in
       let z : length l ≡ n = length_map (lower (ceiling older)) r.list ∙ r.instructions in
-      (parts_rows (all_parts l), length (parts_words (all_parts l)), ap answer (older-accepts r.is) ∙ answer_accepted v l z refl refl)
+      (parts_rows (all_parts l), length (parts_words (all_parts l)), ap answer (older_accepts r.is) ∙ answer_accepted v l z refl refl)
 
   pub entries_beside : (v n o w : ℕ) → answer (decode newer four chunk p) ≡ Accepted v n o w → (k : ℕ) → k < n →
       Beside (ceiling older) chunk (entry (reading (decode newer four chunk p) p) k) (entry (reading (decode older four chunk p') p') k)
@@ -154,11 +154,11 @@ module _ (older newer four : ℕ) (chunk : List ℕ) (p p' : Pools) (h : older �
       let kl : k < length r.list = subst (λ (m : ℕ). k < m) (sym r.instructions) hk in
       let kl' : k < length (map (lower lo) r.list) = subst (λ (m : ℕ). k < m) (sym (length_map (lower lo) r.list)) kl in
       let new : entry (reading (decode newer four chunk p) p) k ≡ nth 8 0 0 r.list k = ap (λ (a : Outcome). entry (reading a p) k) r.is ∙ entry_nth v r.list p k kl in
-      let old : entry (reading (decode older four chunk p') p') k ≡ nth 8 0 0 (map (lower lo) r.list) k = ap (λ (a : Outcome). entry (reading a p') k) (older-accepts r.is) ∙ entry_nth v (map (lower lo) r.list) p' k kl' in
+      let old : entry (reading (decode older four chunk p') p') k ≡ nth 8 0 0 (map (lower lo) r.list) k = ap (λ (a : Outcome). entry (reading a p') k) (older_accepts r.is) ∙ entry_nth v (map (lower lo) r.list) p' k kl' in
       subst₂ (Beside lo chunk) (sym new) (sym old) (besides chunk lo 2 0 0 0 0 r.list s k kl)
 
   pub older_refusal : (r : Refusal) → answer (decode newer four chunk p) ≡ Refused r → (12 < number r → code_of (drop (place r / 4) (dwords_of chunk)) < ceiling older) → answer (decode older four chunk p') ≡ Refused r
-  older_refusal r e n = (answer_refused _ r).1 (older-refuses ((answer_refused _ r).0 e) n)
+  older_refusal r e n = (answer_refused _ r).1 (older_refuses ((answer_refused _ r).0 e) n)
 
 -- an instruction's kind depends on its code and the edition only
 pub kind_depends : (edition four : ℕ) (chunk : List ℕ) (p : Pools) (v n o w : ℕ) → answer (decode edition four chunk p) ≡ Accepted v n o w → (k : ℕ) → k < n →

@@ -11,7 +11,7 @@ use Rattle.format.specs.Operands as op
 use Rattle.format.specs.Declarations.{field_in, in_bounds, in_table, layout}
 use Rattle.format.specs.Instructions as ins
 use Rattle.format.specs.Rows.{tree_words, tree_rows, operand_row, tree_table, parts_words, parts_rows, parts_table, top_level, parts, unread_row, instruction_row, instruction_rows, all_parts}
-use Rattle.format.specs.Refusals.{number, place, SHEX, first_of, header, firstPass, secondPass, readings, Outcome, refused, accepted, is_model51, body, read_chunk}
+use Rattle.format.specs.Refusals.{number, place, SHEX, first_of, header, first_pass, second_pass, readings, Outcome, refused, accepted, is_model51, body, read_chunk}
 use Rattle.format.specs.Calls.{reached, signed, offset}
 
 -- what a caller sees: a refusal's number and place; or the version token, the instructions' rows, the operands' rows, the words, and the
@@ -26,7 +26,7 @@ seen (accepted v l) = let is = instruction_rows 8 0 0 l in rows v is (parts_tabl
 
 -- dwords read as SHEX with enough room; the whole reading is opened by this one name
 unfoldable pub reading : ℕ → List ℕ → Seen
-unfolding seen read_chunk body is_model51 header first_of firstPass secondPass readings frame length_of long sized ceiling code_of bytes_of dwords_of follows dword some none_left chain numbers within line_of operand_count lower_bits rising of_type type_bits op.immediate op.form op.selection op.immediates op.reprs op.repr op.own op.nests op.known op.read_index op.read_immediates op.read_indices op.operand op.dwords op.modifiers op.exact_extension op.exact_dword op.exact op.parts_dwords op.exact_parts field_in in_bounds in_table layout ins.read_head ins.readItem ins.readItems ins.split ins.fault ins.fields_of ins.extensions ins.exact_class ins.exact_pieces ins.checked ins.judged ins.read ins.dwords tree_words tree_rows operand_row tree_table parts_words parts_rows parts_table top_level parts unread_row instruction_row instruction_rows all_parts offset reached signed
+unfolding seen read_chunk body is_model51 header first_of first_pass second_pass readings frame length_of long sized ceiling code_of bytes_of dwords_of follows dword some none_left chain numbers within line_of operand_count lower_bits rising of_type type_bits op.immediate op.form op.selection op.immediates op.reprs op.repr op.own op.nests op.known op.read_index op.read_immediates op.read_indices op.operand op.dwords op.modifiers op.exact_extension op.exact_dword op.exact op.parts_dwords op.exact_parts field_in in_bounds in_table layout ins.read_head ins.read_item ins.read_items ins.split ins.fault ins.fields_of ins.extensions ins.exact_class ins.exact_pieces ins.checked ins.judged ins.read ins.dwords tree_words tree_rows operand_row tree_table parts_words parts_rows parts_table top_level parts unread_row instruction_row instruction_rows all_parts offset reached signed
 reading e ds = seen (read_chunk e SHEX (bytes_of ds))
 
 pub record Case : Type 0 where

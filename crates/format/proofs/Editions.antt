@@ -12,12 +12,12 @@ use native.Mathlib.Decide.{dec_lt}
 use borrow.Author.Tests.{lt-ltb, le-ltb}
 use Rattle.format.specs.declared.Refusal.{Refusal}
 use Rattle.format.specs.declared.Refusal.TheVariants.{OperandCount, Layout}
-use Rattle.format.specs.Framing.{code_of, Framed, whole, zeroLength, pastEnd, instruction, frame}
+use Rattle.format.specs.Framing.{code_of, Framed, whole, zero_length, past_end, instruction, frame}
 use Rattle.format.specs.Instructions.{Instruction, unread, Reading, ok, miscounted, inexact, read, dwords}
-use Rattle.format.specs.Refusals.{number, place, Outcome, refused, accepted, unless, either, firstPass, secondPass, readings, is_model51, body}
+use Rattle.format.specs.Refusals.{number, place, Outcome, refused, accepted, unless, either, first_pass, second_pass, readings, is_model51, body}
 use Rattle.format.proofs.Dwords.{impossible}
 use Rattle.format.proofs.Instructions.{kept_ok, read_restores, read_known, read_unknown}
-use Rattle.format.proofs.Refusals.{Cuts, done, zero-length, past_end, more, frame_cuts, unless_accepted, accepted_fields, passed}
+use Rattle.format.proofs.Refusals.{Cuts, done, zero_length_lem, past_end_lem, more, frame_cuts, unless_accepted, accepted_fields, passed}
 
 -- an instruction under a lower ceiling: as it is, or unread, holding exactly its dwords
 unfoldable pub lower : ℕ → Instruction → Instruction
@@ -41,7 +41,7 @@ module _ (lo hi : ℕ) (lh : lo ≤ hi) (m : Bool) (ds : List ℕ) where
   -- a pass over the stream, of which a reading may be hit; where it ends doesn't depend on the ceiling
   record Pass (pass : ℕ → ℕ → Framed → Option Refusal) (hit : Reading → Bool) (r : ℕ → Refusal) : Type 0 where
     step : (c at : ℕ) (i : List ℕ) (f : Framed) → pass c at (instruction i f) ≡ cond (hit (read c m i)) (some (r at)) (pass c (at + length i) f)
-    ends : (at : ℕ) → (pass lo at whole ≡ pass hi at whole) × (pass lo at zeroLength ≡ pass hi at zeroLength) × (pass lo at pastEnd ≡ pass hi at pastEnd)
+    ends : (at : ℕ) → (pass lo at whole ≡ pass hi at whole) × (pass lo at zero_length ≡ pass hi at zero_length) × (pass lo at past_end ≡ pass hi at past_end)
     spares : (i : Instruction) → hit (ok i) ≡ false
     inside : (at : ℕ) → (12 < number (r at)) × (place (r at) / 4 ≡ at)
 
@@ -66,28 +66,28 @@ module _ (lo hi : ℕ) (lh : lo ≤ hi) (m : Bool) (ds : List ℕ) where
             impossible (omega arith)
         go false k = f k
 
-    same-pass : (at : ℕ) {f : Framed} {l : List ℕ} → Cuts f l → l ≡ drop at ds → Fine (pass hi at f) → pass lo at f ≡ pass hi at f
-    same-pass at done z k = (p.ends at).0
-    same-pass at zero-length z k = (p.ends at).1
-    same-pass at past_end z k = (p.ends at).2
-    same-pass at (more t i left {f = f} n s q) z k =
+    same_pass : (at : ℕ) {f : Framed} {l : List ℕ} → Cuts f l → l ≡ drop at ds → Fine (pass hi at f) → pass lo at f ≡ pass hi at f
+    same_pass at done z k = (p.ends at).0
+    same_pass at zero_length_lem z k = (p.ends at).1
+    same_pass at past_end_lem z k = (p.ends at).2
+    same_pass at (more t i left {f = f} n s q) z k =
         let next : left ≡ drop (at + length (t ∷ i)) ds = sym (drop-append_seam (t ∷ i) left) ∙ ap (drop (length (t ∷ i))) (s ∙ z) ∙ drop-drop (length (t ∷ i)) at ds in
         rw (p.step lo at (t ∷ i) f, p.step hi at (t ∷ i) f)
-        (same_step at (t ∷ i) _ _ (order (code_of (t ∷ i)) lo) (unfold code_of in ap code_of (s ∙ z)) (rw (p.step hi at (t ∷ i) f) at k) (same-pass (at + length (t ∷ i)) q next))
+        (same_step at (t ∷ i) _ _ (order (code_of (t ∷ i)) lo) (unfold code_of in ap code_of (s ∙ z)) (rw (p.step hi at (t ∷ i) f) at k) (same_pass (at + length (t ∷ i)) q next))
 
   -- 11, 12 and 13; and 14
-  first-pass : Pass (λ c at f. firstPass c m at f) (λ (x : Reading). either x false true false) (λ at. OperandCount (4 * at))
-  unfolding firstPass
-  first-pass = record { step = λ c at i f. go (read c m i) _ _; ends = λ at. (refl, refl, refl); spares = λ i. refl; inside = λ at. (omega arith, omega arith) }
+  first_pass_lem : Pass (λ c at f. first_pass c m at f) (λ (x : Reading). either x false true false) (λ at. OperandCount (4 * at))
+  unfolding first_pass
+  first_pass_lem = record { step = λ c at i f. go (read c m i) _ _; ends = λ at. (refl, refl, refl); spares = λ i. refl; inside = λ at. (omega arith, omega arith) }
     where
       go : (x : Reading) (a : Option Refusal) (r : Refusal) → either x a (some r) a ≡ cond (either x false true false) (some r) a
       go (ok i) a r = refl
       go miscounted a r = refl
       go inexact a r = refl
 
-  second-pass : Pass (λ c at f. secondPass c m at f) (λ (x : Reading). either x false false true) (λ at. Layout (4 * at))
-  unfolding secondPass
-  second-pass = record { step = λ c at i f. go (read c m i) _ _; ends = λ at. (refl, refl, refl); spares = λ i. refl; inside = λ at. (omega arith, omega arith) }
+  second_pass_lem : Pass (λ c at f. second_pass c m at f) (λ (x : Reading). either x false false true) (λ at. Layout (4 * at))
+  unfolding second_pass
+  second_pass_lem = record { step = λ c at i f. go (read c m i) _ _; ends = λ at. (refl, refl, refl); spares = λ i. refl; inside = λ at. (omega arith, omega arith) }
     where
       go : (x : Reading) (a : Option Refusal) (r : Refusal) → either x a a (some r) ≡ cond (either x false false true) (some r) a
       go (ok i) a r = refl
@@ -95,22 +95,22 @@ module _ (lo hi : ℕ) (lh : lo ≤ hi) (m : Bool) (ds : List ℕ) where
       go inexact a r = refl
 
   -- what both passes let by is read, lowered
-  lower-one : {j : Instruction} (i : List ℕ) → read hi m i ≡ ok j → Order (code_of i) lo → read lo m i ≡ ok (lower lo j)
+  lower_one : {j : Instruction} (i : List ℕ) → read hi m i ≡ ok j → Order (code_of i) lo → read lo m i ≡ ok (lower lo j)
   unfolding lower
-  lower-one {j = j} i e o = rw (kept_ok (read_restores hi m i) e) (go o)
+  lower_one {j = j} i e o = rw (kept_ok (read_restores hi m i) e) (go o)
     where
       go : Order (code_of i) lo → read lo m i ≡ ok (cond (ltb (code_of i) lo) j (unread i))
       go (below h) = rw (read_same i h, e, lt-ltb (code_of i) lo h)
       go (above h) = rw (read_unknown lo m i h, le-ltb (code_of i) lo h)
 
-  lower-all : (at : ℕ) (f : Framed) → firstPass hi m at f ≡ none → secondPass hi m at f ≡ none → readings lo m f ≡ map (lower lo) (readings hi m f)
-  unfolding firstPass secondPass readings
-  lower-all at whole e₁ e₂ = refl
-  lower-all at zeroLength e₁ e₂ = refl
-  lower-all at pastEnd e₁ e₂ = refl
-  lower-all at (instruction i f) e₁ e₂ =
+  lower_all : (at : ℕ) (f : Framed) → first_pass hi m at f ≡ none → second_pass hi m at f ≡ none → readings lo m f ≡ map (lower lo) (readings hi m f)
+  unfolding first_pass second_pass readings
+  lower_all at whole e₁ e₂ = refl
+  lower_all at zero_length e₁ e₂ = refl
+  lower_all at past_end e₁ e₂ = refl
+  lower_all at (instruction i f) e₁ e₂ =
       let p = passed (read hi m i) _ _ _ _ e₁ e₂ in
-      rw (p.is, lower-one i p.is (order (code_of i) lo)) (ap (λ (l : List Instruction). lower lo p.instruction ∷ l) (lower-all (at + length i) f p.first p.second))
+      rw (p.is, lower_one i p.is (order (code_of i) lo)) (ap (λ (l : List Instruction). lower lo p.instruction ∷ l) (lower_all (at + length i) f p.first p.second))
 
 -- a refusal is a pass's own, or comes later
 data Stage (o : Option Refusal) (a : Outcome) (r : Refusal) : Type 0 where
@@ -131,39 +131,39 @@ module _ (lo hi : ℕ) (lh : lo ≤ hi) (ds : List ℕ) where
   cuts : Cuts f (drop 2 ds)
   cuts = frame_cuts (length ds) (drop 2 ds) (simp length-drop (omega arith))
 
-  nothing-found : {o : Option Refusal} → o ≡ none → (x : Refusal) → o ≡ some x → Known lo ds x
-  nothing-found e x z = impossible (cc)
+  nothing_found : {o : Option Refusal} → o ≡ none → (x : Refusal) → o ≡ some x → Known lo ds x
+  nothing_found e x z = impossible (cc)
 
   found : {o : Option Refusal} {r : Refusal} → o ≡ some r → Known lo ds r → (x : Refusal) → o ≡ some x → Known lo ds x
   found {r = r} e k x z = let q : r ≡ x = cc in subst (Known lo ds) q k
 
-  first-same : ((x : Refusal) → firstPass hi m 2 f ≡ some x → Known lo ds x) → firstPass lo m 2 f ≡ firstPass hi m 2 f
-  first-same k = same-pass lo hi lh m ds (first-pass lo hi lh m ds) 2 cuts refl k
+  first_same : ((x : Refusal) → first_pass hi m 2 f ≡ some x → Known lo ds x) → first_pass lo m 2 f ≡ first_pass hi m 2 f
+  first_same k = same_pass lo hi lh m ds (first_pass_lem lo hi lh m ds) 2 cuts refl k
 
-  second-same : ((x : Refusal) → secondPass hi m 2 f ≡ some x → Known lo ds x) → secondPass lo m 2 f ≡ secondPass hi m 2 f
-  second-same k = same-pass lo hi lh m ds (second-pass lo hi lh m ds) 2 cuts refl k
+  second_same : ((x : Refusal) → second_pass hi m 2 f ≡ some x → Known lo ds x) → second_pass lo m 2 f ≡ second_pass hi m 2 f
+  second_same k = same_pass lo hi lh m ds (second_pass_lem lo hi lh m ds) 2 cuts refl k
 
   -- what the higher ceiling accepts the lower accepts, lowered
   pub body_accepts : {v : ℕ} {l : List Instruction} → body hi ds ≡ accepted v l → body lo ds ≡ accepted v (map (lower lo) l)
   unfolding body
   body_accepts {v} {l} e =
-      let a = unless_accepted (firstPass hi m 2 f) e in
-      let b = unless_accepted (secondPass hi m 2 f) a.1 in
+      let a = unless_accepted (first_pass hi m 2 f) e in
+      let b = unless_accepted (second_pass hi m 2 f) a.1 in
       let z = accepted_fields b.1 in
-      rw (first-same (nothing-found a.0), a.0, second-same (nothing-found b.0), b.0, lower-all lo hi lh m ds 2 f a.0 b.0) (λ i. accepted (z.0 i) (map (lower lo) (z.1 i)))
+      rw (first_same (nothing_found a.0), a.0, second_same (nothing_found b.0), b.0, lower_all lo hi lh m ds 2 f a.0 b.0) (λ i. accepted (z.0 i) (map (lower lo) (z.1 i)))
 
   -- what it refuses in framing, or inside an instruction that the lower knows, the lower refuses so too
   pub body_refuses : {r : Refusal} → body hi ds ≡ refused r → Known lo ds r → body lo ds ≡ refused r
   unfolding body
-  body_refuses {r} e k = go (stage (firstPass hi m 2 f) e)
+  body_refuses {r} e k = go (stage (first_pass hi m 2 f) e)
     where
       last : Outcome
       last = accepted (get_or ds 0 0) (readings lo m f)
 
-      go₂ : firstPass hi m 2 f ≡ none → Stage (secondPass hi m 2 f) (accepted (get_or ds 0 0) (readings hi m f)) r → unless (firstPass lo m 2 f) (unless (secondPass lo m 2 f) last) ≡ refused r
-      go₂ z (here y) = rw (first-same (nothing-found z), z, second-same (found y k), y)
+      go₂ : first_pass hi m 2 f ≡ none → Stage (second_pass hi m 2 f) (accepted (get_or ds 0 0) (readings hi m f)) r → unless (first_pass lo m 2 f) (unless (second_pass lo m 2 f) last) ≡ refused r
+      go₂ z (here y) = rw (first_same (nothing_found z), z, second_same (found y k), y)
       go₂ z (later y x) = impossible (cc)
 
-      go : Stage (firstPass hi m 2 f) (unless (secondPass hi m 2 f) (accepted (get_or ds 0 0) (readings hi m f))) r → unless (firstPass lo m 2 f) (unless (secondPass lo m 2 f) last) ≡ refused r
-      go (here y) = rw (first-same (found y k), y)
-      go (later z x) = go₂ z (stage (secondPass hi m 2 f) x)
+      go : Stage (first_pass hi m 2 f) (unless (second_pass hi m 2 f) (accepted (get_or ds 0 0) (readings hi m f))) r → unless (first_pass lo m 2 f) (unless (second_pass lo m 2 f) last) ≡ refused r
+      go (here y) = rw (first_same (found y k), y)
+      go (later z x) = go₂ z (stage (second_pass hi m 2 f) x)

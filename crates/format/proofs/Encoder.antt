@@ -213,8 +213,8 @@ same_gives e q chunk y p s =
 -- the encoder's answer: 1 or 15, or else a chunk that gives the rows
 pub data Case (e : ℕ) (q : Rows) (size : ℕ) : Encoding → Type 0 where
   no_edition : 3 < e → Case e q size (unencoded Edition)
-  no-reading : Case e q size (unencoded NoReading)
-  a-chunk : {chunk : List ℕ} → Gives e q chunk → Case e q size (cond (ltb size (length chunk)) (unencoded OutputShort) (encoded chunk))
+  no_reading : Case e q size (unencoded NoReading)
+  a_chunk : {chunk : List ℕ} → Gives e q chunk → Case e q size (cond (ltb size (length chunk)) (unencoded OutputShort) (encoded chunk))
 
 -- a chunk that gives the rows, or none is found
 pub data Found (e : ℕ) (q : Rows) : Option (List ℕ) → Type 0 where
@@ -239,8 +239,8 @@ encode_case e q size = go (ltb 3 e) refl (chunk_found e q)
   where
     go : (x : Bool) → ltb 3 e ≡ x → {f : Option (List ℕ)} → Found e q f → Case e q size (cond x (unencoded Edition) (into size f))
     go true ex f = no_edition (ltb-true 3 e ex)
-    go false ex not_found = no-reading
-    go false ex (found g) = a-chunk g
+    go false ex not_found = no_reading
+    go false ex (found g) = a_chunk g
 
 -- so 15 is given exactly when no chunk gives the rows
 cond_not_15 : (b : Bool) (chunk : List ℕ) → cond b (unencoded OutputShort) (encoded chunk) ≡ unencoded NoReading → ⊥
@@ -255,8 +255,8 @@ none_refused e q size k f = go (encode_case e q size)
   where
     go : {x : Encoding} → Case e q size x → x ≡ unencoded NoReading
     go (no_edition h) = impossible (omega arith)
-    go no-reading = refl
-    go (a-chunk {chunk = chunk} g) = absurd (f chunk g)
+    go no_reading = refl
+    go (a_chunk {chunk = chunk} g) = absurd (f chunk g)
 
 cond_encoded : (b : Bool) (chunk out : List ℕ) → cond b (unencoded OutputShort) (encoded chunk) ≡ encoded out → chunk ≡ out
 cond_encoded true chunk out e = impossible (cc)
@@ -267,8 +267,8 @@ encoded_gives e q size out h = go (encode_case e q size) h
   where
     go : {x : Encoding} → Case e q size x → x ≡ encoded out → Gives e q out
     go (no_edition k) z = impossible (cc)
-    go no-reading z = impossible (cc)
-    go (a-chunk {chunk = chunk} g) z = subst (Gives e q) (cond_encoded (ltb size (length chunk)) chunk out z) g
+    go no_reading z = impossible (cc)
+    go (a_chunk {chunk = chunk} g) z = subst (Gives e q) (cond_encoded (ltb size (length chunk)) chunk out z) g
 
 -- and rows determine their chunk, at whatever editions
 pub gives_one : {e e' : ℕ} {q : Rows} {chunk chunk' : List ℕ} → Gives e q chunk → Gives e' q chunk' → chunk ≡ chunk'

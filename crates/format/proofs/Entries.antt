@@ -97,9 +97,9 @@ module _ (v j nw at₀ r w : ℕ) (i : Instruction) (l : List Instruction) (X Y 
   unfolding all_parts
   operands_in_lem = rw (drop_at Y _ (16 * r) b.operands, table_append r w (parts i) (all_parts l), append_assoc (parts_table r w (parts i)) _ Y') (take_at (parts_table r w (parts i)) _ (16 * parts_rows (parts i)) (parts_length r w (parts i)))
 
-  words-in : take (length (parts_words (parts i))) (drop w q.pools.words) ≡ parts_words (parts i)
+  words_in : take (length (parts_words (parts i))) (drop w q.pools.words) ≡ parts_words (parts i)
   unfolding all_parts
-  words-in = rw (drop_at Z _ w b.words, words_append (parts i) (all_parts l), append_assoc (parts_words (parts i)) _ Z') (take_at (parts_words (parts i)) _ (length (parts_words (parts i))) refl)
+  words_in = rw (drop_at Z _ w b.words, words_append (parts i) (all_parts l), append_assoc (parts_words (parts i)) _ Z') (take_at (parts_words (parts i)) _ (length (parts_words (parts i))) refl)
 
   spans : spanned j (j + length (i ∷ l)) q.pools.instructions q.pools.words ≡ true
   unfolding spanned reached instruction_rows all_parts
@@ -122,7 +122,7 @@ module _ (v j nw at₀ r w : ℕ) (i : Instruction) (l : List Instruction) (X Y 
   unfolding entry part_of
   entry_here =
       let e₁ : r + parts_rows (parts i) - r ≡ parts_rows (parts i) = omega arith in
-      rw (spans, next_row_lem v j nw at₀ r w i l X Y Z X' Y' Z' b, cell_in 12 (omega arith), cell_in 14 (omega arith), cell_in 15 (omega arith), (row_places at₀ r w i).0, (row_places at₀ r w i).1, row_words at₀ r w i, e₁, row_in, operands_in_lem, words-in)
+      rw (spans, next_row_lem v j nw at₀ r w i l X Y Z X' Y' Z' b, cell_in 12 (omega arith), cell_in 14 (omega arith), cell_in 15 (omega arith), (row_places at₀ r w i).0, (row_places at₀ r w i).1, row_words at₀ r w i, e₁, row_in, operands_in_lem, words_in)
 
 before_next : (j at₀ r w : ℕ) (i : Instruction) (X Y Z : List ℕ) → Before j r w X Y Z →
     Before (j + 1) (r + parts_rows (parts i)) (w + length (parts_words (parts i))) (X ++ instruction_row at₀ r w i) (Y ++ parts_table r w (parts i)) (Z ++ parts_words (parts i))

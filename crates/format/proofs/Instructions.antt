@@ -10,12 +10,12 @@ use Rattle.format.specs.Dwords.{follows, Got}
 use Rattle.format.specs.Framing.{code_of, sized}
 use Rattle.format.specs.Declarations.{Item, o, d, small, s, tail, list, Layout, layout, chained}
 use Rattle.format.specs.Operands as op
-use Rattle.format.specs.Instructions.{Instruction, unread, pieces, Reading, ok, miscounted, inexact, read_head, readItem, readItems, split, fault, exact_pieces, checked, judged, read, dwords}
+use Rattle.format.specs.Instructions.{Instruction, unread, pieces, Reading, ok, miscounted, inexact, read_head, read_item, read_items, split, fault, exact_pieces, checked, judged, read, dwords}
 use Rattle.format.proofs.Dwords.{impossible, All, unmet, met, all_then, all_if, all_weaken, Makes, makes_dword, some_length, none_left_lem, chain_linked}
 use Rattle.format.proofs.Operands.{makes_operand}
 
-makes_item : (m : Bool) (i : Item) (ds : List ℕ) → Makes op.dwords ds (readItem m i ds)
-unfolding readItem op.dwords
+makes_item : (m : Bool) (i : Item) (ds : List ℕ) → Makes op.dwords ds (read_item m i ds)
+unfolding read_item op.dwords
 makes_item m o ds = makes_operand _ ds
 makes_item m d ds = all_then (some_length 1 ds) (λ x r e. met (rw append-nil e.0))
 makes_item m small ds = all_then (makes_dword ds) (λ x r e. all_if (ltb x 65_536) _ _ r (λ h. met e) (λ h. unmet))
@@ -23,8 +23,8 @@ makes_item m s ds = all_then (some_length (cond m 1 0) ds) (λ x r e. met (rw ap
 makes_item m tail ds = met (append-nil _ ∙ append-nil ds)
 makes_item m (list b) ds = all_then (makes_dword ds) (λ n r e. all_then (some_length (n % 2 ^ b) r) (λ x q e₁. met (ap (λ (l : List ℕ). n ∷ l) (ap (λ (l : List ℕ). l ++ q) (append-nil x) ∙ e₁.0) ∙ e)))
 
-pub makes_items : (m : Bool) (l : List Item) (ds : List ℕ) → Makes op.parts_dwords ds (readItems m l ds)
-unfolding readItems op.parts_dwords
+pub makes_items : (m : Bool) (l : List Item) (ds : List ℕ) → Makes op.parts_dwords ds (read_items m l ds)
+unfolding read_items op.parts_dwords
 makes_items m [] ds = met refl
 makes_items m (i ∷ l) ds = all_then (makes_item m i ds) (λ p r e. all_then (makes_items m l r) (λ ps q e₁. met (rw (append_assoc, e₁, e))))
 
@@ -60,15 +60,15 @@ module _ {P : Instruction → Type 0} where
   unfolding fault
   kept_fault x = kept_if (eqb x.kind 1 && ltb 1 (length x.items)) _ _ (λ e. kept13) (λ e. kept14)
 
-  kept-checked : (x : Layout) (i : Instruction) → P i → Kept P (checked x i)
+  kept_checked : (x : Layout) (i : Instruction) → P i → Kept P (checked x i)
   unfolding checked
-  kept-checked x (unread ds) p = kept p
-  kept-checked x (pieces t e ps) p = kept_if (exact_pieces x t e ps) _ _ (λ z. kept p) (λ z. kept14)
+  kept_checked x (unread ds) p = kept p
+  kept_checked x (pieces t e ps) p = kept_if (exact_pieces x t e ps) _ _ (λ z. kept p) (λ z. kept14)
 
   pub kept_judged : (x : Layout) {g : Got Instruction} → All (λ i r. P i) g → Kept P (judged x g)
   unfolding judged
   kept_judged x unmet = kept_fault x
-  kept_judged x (met {a = i} p) = kept-checked x i p
+  kept_judged x (met {a = i} p) = kept_checked x i p
 
 pub read_restores : (c : ℕ) (m : Bool) (ds : List ℕ) → Kept (λ i. dwords i ≡ ds) (read c m ds)
 unfolding read dwords

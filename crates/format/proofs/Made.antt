@@ -13,9 +13,9 @@ use Rattle.format.specs.Dwords as reader
 use Rattle.format.specs.Declarations.{Item, o, d, small, s, tail, list}
 use Rattle.format.specs.Operands as op
 use Rattle.format.specs.Operands.{Tree, none, plain, node}
-use Rattle.format.specs.Instructions.{readItem, readItems}
+use Rattle.format.specs.Instructions.{read_item, read_items}
 use Rattle.format.specs.Rows.{tree_words, operand_row, tree_table, parts_words, parts_table}
-use Rattle.format.specs.Encoder.{Maker, these, words, at, extension_of, operand_dword, make_index, make_rest, make_operand, makeItem, makeItems}
+use Rattle.format.specs.Encoder.{Maker, these, words, at, extension_of, operand_dword, make_index, make_rest, make_operand, make_item, make_items}
 use Rattle.format.proofs.Dwords.{impossible, both, All, unmet, met, all_then, all_if, all_weaken, all_both, makes_dword, some_length, Linked, end, link, chain_linked}
 use Rattle.format.proofs.Instructions.{makes_items}
 use Rattle.format.proofs.Rows.{operand_row_length, parts_fit}
@@ -68,21 +68,21 @@ pub flat4 : (q x y z r : List ℕ) → (q ++ x ++ y ++ z) ++ r ≡ q ++ ((x ++ y
 flat4 q x y z r = simp append_assoc
 
 module _ (p : Reader Tree) (q : Maker) (hp : (ds : List ℕ) → All (λ x r. Again q x) (p ds)) where
-  child-again : (b : Bool) (ds : List ℕ) → All (λ x r. Again (cond b q (these [])) x) (cond b p (reader.give none) ds)
+  child_again : (b : Bool) (ds : List ℕ) → All (λ x r. Again (cond b q (these [])) x) (cond b p (reader.give none) ds)
   unfolding tree_table tree_words op.dwords
-  child-again true ds = hp ds
-  child-again false ds = met (λ e r w R W. refl)
+  child_again true ds = hp ds
+  child_again false ds = met (λ e r w R W. refl)
 
-  index-step : (i : ℕ) (x : List ℕ) (c : Tree) → length x ≡ op.own i → Again (cond (op.nests i) q (these [])) c → Again (make_index q i) (plain x c)
+  index_step : (i : ℕ) (x : List ℕ) (c : Tree) → length x ≡ op.own i → Again (cond (op.nests i) q (these [])) c → Again (make_index q i) (plain x c)
   unfolding make_index tree_table tree_words op.exact op.dwords
-  index-step i x c e f h r w R W = rw (append_assoc x (tree_words c) W, take_at x _ (op.own i) e, drop_at x _ (op.own i) e, f h r (w + length x) R W)
+  index_step i x c e f h r w R W = rw (append_assoc x (tree_words c) W, take_at x _ (op.own i) e, drop_at x _ (op.own i) e, f h r (w + length x) R W)
 
-  index-again : (i : ℕ) (ds : List ℕ) → All (λ x r. Again (make_index q i) x) (op.read_index p i ds)
+  index_again : (i : ℕ) (ds : List ℕ) → All (λ x r. Again (make_index q i) x) (op.read_index p i ds)
   unfolding op.read_index
-  index-again i ds = all_if (op.known i) _ _ ds
+  index_again i ds = all_if (op.known i) _ _ ds
       (λ k. all_then (some_length (op.own i) ds) (λ x ds₁ e₁.
-      all_then (child-again (op.nests i) ds₁) (λ c ds₂ f.
-      met (index-step i x c e₁.1 f))))
+      all_then (child_again (op.nests i) ds₁) (λ c ds₂ f.
+      met (index_step i x c e₁.1 f))))
       (λ k. unmet)
 
 pub record Exact (t : ℕ) (e : List ℕ) (a b c : Tree) : Type 0 where
@@ -141,9 +141,9 @@ operand_again (suc k) ds =
     all_if (op.immediate t) _ _ ds₂
     (λ i. all_if (eqb (op.dimension t) 0) _ _ ds₂ (λ z. all_then (some_length (op.immediates t) ds₂) (λ m ds₃ l. met (operand_step k t e m none none none ch.1 (λ h. immediates_rest k t m i l.1)))) (λ z. unmet))
     (λ i.
-    all_then (index-again (op.operand k) (make_operand k) (operand_again k) (op.repr 0 t) ds₂) (λ a ds₃ fa.
-    all_then (index-again (op.operand k) (make_operand k) (operand_again k) (op.repr 1 t) ds₃) (λ b ds₄ fb.
-    all_then (index-again (op.operand k) (make_operand k) (operand_again k) (op.repr 2 t) ds₄) (λ c ds₅ fc.
+    all_then (index_again (op.operand k) (make_operand k) (operand_again k) (op.repr 0 t) ds₂) (λ a ds₃ fa.
+    all_then (index_again (op.operand k) (make_operand k) (operand_again k) (op.repr 1 t) ds₃) (λ b ds₄ fb.
+    all_then (index_again (op.operand k) (make_operand k) (operand_again k) (op.repr 2 t) ds₄) (λ c ds₅ fc.
     met (operand_step k t e [] a b c ch.1 (λ h. let x = exact_node t e [] a b c h in indices_rest k t a b c i fa fb fc x.first x.second x.third))))))))
 
 -- ---- parts, from words that are theirs alone: where no dword was left, no word is
@@ -156,8 +156,8 @@ plain_again x W R n e = rw (append-nil x) (take_words x W R n e)
 tail_again : (x W R : List ℕ) → W ≡ [] → words (length (x ++ [] ++ W)) R (x ++ [] ++ W) ≡ these (x ++ []) R W
 tail_again x W R e = rw (e, append-nil x, append-nil x, take-length x, drop-length x)
 
-item_again : (m : Bool) (i : Item) (ds : List ℕ) → All (λ x left. ItemAgain (makeItem m i) x left) (readItem m i ds)
-unfolding readItem makeItem tree_table tree_words op.dwords
+item_again : (m : Bool) (i : Item) (ds : List ℕ) → All (λ x left. ItemAgain (make_item m i) x left) (read_item m i ds)
+unfolding read_item make_item tree_table tree_words op.dwords
 item_again m o ds = all_weaken (λ x left f e r w R W z. f e r w R W) (operand_again _ ds)
 item_again m d ds = all_then (some_length 1 ds) (λ x left l. met (λ e r w R W z. plain_again x W R 1 l.1))
 item_again m small ds = all_then (makes_dword ds) (λ x left u. all_if (ltb x 65_536) _ _ left (λ h. met (λ e r w R W z. plain_again (x ∷ []) W R 1 refl)) (λ h. unmet))
@@ -166,10 +166,10 @@ item_again m tail ds = met (λ e r w R W z. tail_again ds W R (z refl))
 item_again m (list b) ds = all_then (makes_dword ds) (λ n left₁ u. all_then (some_length (n % 2 ^ b) left₁) (λ x left l. met (λ e r w R W z. plain_again (n ∷ x) W R (1 + n % 2 ^ b) (omega (arith, l.1)))))
 
 abbrev pub PartsAgain : Bool → List Item → List Tree → Type 0
-PartsAgain m l ps = op.exact_parts ps ≡ true → (r w : ℕ) (R : List ℕ) → makeItems m l (parts_table r w ps ++ R) (parts_words ps) ≡ these (op.parts_dwords ps) R []
+PartsAgain m l ps = op.exact_parts ps ≡ true → (r w : ℕ) (R : List ℕ) → make_items m l (parts_table r w ps ++ R) (parts_words ps) ≡ these (op.parts_dwords ps) R []
 
 no_items : (m : Bool) → PartsAgain m [] []
-unfolding makeItems parts_table parts_words op.parts_dwords
+unfolding make_items parts_table parts_words op.parts_dwords
 no_items m e r w R = refl
 
 pub nil_of : (l : List ℕ) → length l ≤ 0 → l ≡ []
@@ -179,13 +179,13 @@ nil_of (x ∷ l) h = impossible (omega arith)
 pub no_words : (ps : List Tree) (left : List ℕ) → op.parts_dwords ps ++ left ≡ [] → parts_words ps ≡ []
 no_words ps left e = nil_of (parts_words ps) (omega (arith, parts_fit ps, ap length e, length-append (op.parts_dwords ps) left))
 
-parts_step : (m : Bool) (i : Item) (l : List Item) (x : Tree) (ps : List Tree) (left left₁ : List ℕ) → ItemAgain (makeItem m i) x left → PartsAgain m l ps → op.parts_dwords ps ++ left₁ ≡ left → PartsAgain m (i ∷ l) (x ∷ ps)
-unfolding makeItems parts_table parts_words op.parts_dwords op.exact_parts
+parts_step : (m : Bool) (i : Item) (l : List Item) (x : Tree) (ps : List Tree) (left left₁ : List ℕ) → ItemAgain (make_item m i) x left → PartsAgain m l ps → op.parts_dwords ps ++ left₁ ≡ left → PartsAgain m (i ∷ l) (x ∷ ps)
+unfolding make_items parts_table parts_words op.parts_dwords op.exact_parts
 parts_step m i l x ps left left₁ f g e h r w R =
     let b = both (op.exact x) (op.exact_parts ps) h in
     rw (append_assoc (tree_table r w x) _ R, f b.0 r w _ (parts_words ps) (λ z. no_words ps left₁ (e ∙ z)), g b.1 _ _ R)
 
-pub items_again : (m : Bool) (l : List Item) (ds : List ℕ) → All (λ ps r. PartsAgain m l ps) (readItems m l ds)
-unfolding readItems
+pub items_again : (m : Bool) (l : List Item) (ds : List ℕ) → All (λ ps r. PartsAgain m l ps) (read_items m l ds)
+unfolding read_items
 items_again m [] ds = met (no_items m)
 items_again m (i ∷ l) ds = all_then (item_again m i ds) (λ x left f. all_then (all_both (items_again m l left) (makes_items m l left)) (λ ps left₁ g. met (parts_step m i l x ps left left₁ f g.0 g.1)))

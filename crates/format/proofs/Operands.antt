@@ -19,9 +19,9 @@ module _ (p : Reader Tree) (hp : (ds : List ℕ) → Makes dwords ds (p ds)) whe
       met (rw (append_assoc, e₂, e₁.0)))))
       (λ k. unmet)
 
-  makes-indices : (t : ℕ) (e ds : List ℕ) → All (λ x r. dwords x ++ r ≡ t ∷ e ++ ds) (read_indices p t e ds)
+  makes_indices : (t : ℕ) (e ds : List ℕ) → All (λ x r. dwords x ++ r ≡ t ∷ e ++ ds) (read_indices p t e ds)
   unfolding read_indices dwords
-  makes-indices t e ds =
+  makes_indices t e ds =
       all_then (makes_index (repr 0 t) ds) (λ a ds₁ e₁.
       all_then (makes_index (repr 1 t) ds₁) (λ b ds₂ e₂.
       all_then (makes_index (repr 2 t) ds₂) (λ c ds₃ e₃.
@@ -39,4 +39,4 @@ makes_operand zero ds = unmet
 makes_operand (suc k) ds =
     all_then (makes_dword ds) (λ t ds₁ e₁.
     all_then (chain_linked (follows t) ds₁) (λ e ds₂ e₂.
-    all_if (immediate t) _ _ ds₂ (λ i. rw (← e₁, ← e₂.0) (makes_immediates t e ds₂)) (λ i. rw (← e₁, ← e₂.0) (makes-indices (operand k) (makes_operand k) t e ds₂))))
+    all_if (immediate t) _ _ ds₂ (λ i. rw (← e₁, ← e₂.0) (makes_immediates t e ds₂)) (λ i. rw (← e₁, ← e₂.0) (makes_indices (operand k) (makes_operand k) t e ds₂))))

@@ -9,10 +9,10 @@ use native.Mathlib.Omega.{arith}
 use borrow.Author.Tests.{ltb-false, eqb-true, not-false}
 use Rattle.format.specs.declared.Refusal.{Refusal}
 use Rattle.format.specs.Dwords.{Bytes, dwords_of, Got}
-use Rattle.format.specs.Framing.{length_of, Framed, whole, zeroLength, pastEnd, instruction, cut, frame, ceiling}
+use Rattle.format.specs.Framing.{length_of, Framed, whole, zero_length, past_end, instruction, cut, frame, ceiling}
 use Rattle.format.specs.Instructions.{Instruction, Reading, ok, miscounted, inexact, read, all_dwords}
 use Rattle.format.specs.Counts.{within}
-use Rattle.format.specs.Refusals.{Outcome, accepted, unless, either, firstPass, secondPass, readings, is_model51, body, header, header_tests, first_of, read_chunk, room, decode, Pools, SHEX}
+use Rattle.format.specs.Refusals.{Outcome, accepted, unless, either, first_pass, second_pass, readings, is_model51, body, header, header_tests, first_of, read_chunk, room, decode, Pools, SHEX}
 use Rattle.format.specs.Encoder.{chunk_of}
 use Rattle.format.proofs.Dwords.{impossible, bytes_dwords, length_dwords, All, unmet, met, some_length}
 use Rattle.format.proofs.Instructions.{kept_ok, read_restores}
@@ -20,14 +20,14 @@ use Rattle.format.proofs.Instructions.{kept_ok, read_restores}
 -- framing cuts a payload into instructions, each of its length
 pub data Cuts : Framed → List ℕ → Type 0 where
   done : Cuts whole []
-  zero-length : {ds : List ℕ} → Cuts zeroLength ds
-  past_end : {ds : List ℕ} → Cuts pastEnd ds
+  zero_length_lem : {ds : List ℕ} → Cuts zero_length ds
+  past_end_lem : {ds : List ℕ} → Cuts past_end ds
   more : (t : ℕ) (i left : List ℕ) {ds : List ℕ} {f : Framed} → length (t ∷ i) ≡ length_of t (i ++ left) → (t ∷ i) ++ left ≡ ds → Cuts f left → Cuts (instruction (t ∷ i) f) ds
 
 cut_cuts : (n : ℕ) {g : Got (List ℕ)} (t : ℕ) (ds : List ℕ) (f : List ℕ → Framed) → n ≡ length_of t ds → All (λ x r. (x ++ r ≡ t ∷ ds) × (length x ≡ n)) g →
     ((l : List ℕ) → length l < length (t ∷ ds) → Cuts (f l) l) → Cuts (cut n g f) (t ∷ ds)
-cut_cuts zero t ds f z a rec = zero-length
-cut_cuts (suc n) t ds f z unmet rec = past_end
+cut_cuts zero t ds f z a rec = zero_length_lem
+cut_cuts (suc n) t ds f z unmet rec = past_end_lem
 cut_cuts (suc n) t ds f z (met {a = []} {r = r} p) rec = impossible (omega (arith, p.1))
 cut_cuts (suc n) t ds f z (met {a = u ∷ i} {r = r} p) rec =
     let e : u ≡ t = cc p.0 in
@@ -63,11 +63,11 @@ passed (ok i) a b r₁ r₂ e₁ e₂ = record { instruction = i; is = refl; fir
 passed miscounted a b r₁ r₂ e₁ e₂ = impossible (cc)
 passed inexact a b r₁ r₂ e₁ e₂ = impossible (cc)
 
-passed_reads : (c : ℕ) (m : Bool) (at : ℕ) {f : Framed} {ds : List ℕ} → Cuts f ds → firstPass c m at f ≡ none → secondPass c m at f ≡ none → Reads c m ds (readings c m f)
-unfolding firstPass secondPass readings
+passed_reads : (c : ℕ) (m : Bool) (at : ℕ) {f : Framed} {ds : List ℕ} → Cuts f ds → first_pass c m at f ≡ none → second_pass c m at f ≡ none → Reads c m ds (readings c m f)
+unfolding first_pass second_pass readings
 passed_reads c m at done e₁ e₂ = nil
-passed_reads c m at zero-length e₁ e₂ = impossible (cc)
-passed_reads c m at past_end e₁ e₂ = impossible (cc)
+passed_reads c m at zero_length_lem e₁ e₂ = impossible (cc)
+passed_reads c m at past_end_lem e₁ e₂ = impossible (cc)
 passed_reads c m at (more t i left n s k) e₁ e₂ =
     let p = passed (read c m (t ∷ i)) _ _ _ _ e₁ e₂ in
     rw p.is (cons t i left n s p.is (passed_reads c m (at + length (t ∷ i)) k p.first p.second))
@@ -85,8 +85,8 @@ unfolding body
 body_accepted c ds {v} {l} e =
     let m : Bool = is_model51 (get_or ds 0 0) in
     let f : Framed = frame (length ds) (drop 2 ds) in
-    let a = unless_accepted (firstPass c m 2 f) e in
-    let b = unless_accepted (secondPass c m 2 f) a.1 in
+    let a = unless_accepted (first_pass c m 2 f) e in
+    let b = unless_accepted (second_pass c m 2 f) a.1 in
     let g = accepted_fields b.1 in
     let r : Reads c m (drop 2 ds) (readings c m f) = passed_reads c m 2 (frame_cuts (length ds) (drop 2 ds) (simp length-drop (omega arith))) a.0 b.0 in
     record { version = g.0; reads = rw (← g.0, ← g.1) r }

@@ -18,7 +18,7 @@ use Rattle.format.specs.Operands as op
 use Rattle.format.specs.Operands.{Tree}
 use Rattle.format.specs.Instructions.{Instruction, unread, pieces, read_head, split, fields_of, extensions, exact_class, exact_pieces, checked, judged, read, dwords, all_dwords}
 use Rattle.format.specs.Rows.{tree_words, tree_table, parts_words, parts_rows, parts_table, parts, unread_row, instruction_row, instruction_rows, all_parts}
-use Rattle.format.specs.Encoder.{these, at, makeItem, chain_of, sized_row, token_of_row, head_of_row, make_instruction, make_all}
+use Rattle.format.specs.Encoder.{these, at, make_item, chain_of, sized_row, token_of_row, head_of_row, make_instruction, make_all}
 use Rattle.format.proofs.Dwords.{impossible, both, All, unmet, met, all_then, all_if, all_weaken, all_both, some_length, none_left_lem, Linked, end, link, chain_linked}
 use Rattle.format.proofs.Chains.{bit31, chain_again, chain_shown}
 use Rattle.format.proofs.Instructions.{Kept, kept, kept14, kept_if, kept_fault, kept_ok, makes_split}
@@ -58,10 +58,10 @@ unsized_short t e = go (eqb (code t) 53) (long t) e
 
 -- and the kinds of known codes are 1 to 5
 module _ (P : ℕ → Type 0) (p1 : P 1) (p2 : P 2) (p3 : P 3) (p4 : P 4) (p5 : P 5) where
-  in-table : (l : List (List ℕ × Field × List Item)) (c : ℕ) (x : Layout) → P x.kind → P (in_table l c x).kind
+  in_table_lem : (l : List (List ℕ × Field × List Item)) (c : ℕ) (x : Layout) → P x.kind → P (in_table l c x).kind
   unfolding in_table
-  in-table [] c x h = h
-  in-table (row ∷ l) c x h = go (within c row.0) (in-table l c x h)
+  in_table_lem [] c x h = h
+  in_table_lem (row ∷ l) c x h = go (within c row.0) (in_table_lem l c x h)
     where
       go : (b : Bool) → P (in_table l c x).kind → P (cond b (record { kind = 4; field = row.1; items = row.2 }) (in_table l c x)).kind
       go true h = p4
@@ -81,7 +81,7 @@ module _ (P : ℕ → Type 0) (p1 : P 1) (p2 : P 2) (p3 : P 3) (p4 : P 4) (p5 : 
       go : (a b : Bool) → P (cond a (record { kind = 3; field = no; items = [] }) (cond b (record { kind = 5; field = from 11 15; items = tail ∷ [] }) tabled)).kind
       go true b = p3
       go false true = p5
-      go false false = in-table declarations c (by_count c (operand_count c)) (counted (operand_count c))
+      go false false = in_table_lem declarations c (by_count c (operand_count c)) (counted (operand_count c))
 
 pub kind_positive : (c : ℕ) → eqb (layout c).kind 0 ≡ false
 kind_positive c = every_kind (λ k. eqb k 0 ≡ false) refl refl refl refl refl c
@@ -114,9 +114,9 @@ module _ (at₀ r w t : ℕ) (e : List ℕ) (ps : List Tree) where
   abbrev x : Layout
   x = layout (code t)
 
-  shown-long : chained x ≡ false → ltb 0 (at 8 q) ≡ long t
+  shown_long : chained x ≡ false → ltb 0 (at 8 q) ≡ long t
   unfolding instruction_row extensions type_bits
-  shown-long z = rw z (go (long t))
+  shown_long z = rw z (go (long t))
     where
       go : (b : Bool) → ltb 0 (0 + cond b 8 0) ≡ b
       go true = refl
@@ -127,12 +127,12 @@ module _ (at₀ r w t : ℕ) (e : List ℕ) (ps : List Tree) where
   row_sized = ap (λ (b : Bool). eqb (code t) 53 || b) (go (eqb (code t) 145 || eqb (code t) 146) refl)
     where
       go : (b : Bool) → (eqb (code t) 145 || eqb (code t) 146) ≡ b → (b && ltb 0 (at 8 q)) ≡ long t
-      go true z = shown-long (chainless_145 (code t) _ refl z)
+      go true z = shown_long (chainless_145 (code t) _ refl z)
       go false z = unfold long in rw z
 
-  shown-chain : chained x ≡ true → long t ≡ false → Linked (follows t) e → ltb 0 (at 8 q) ≡ follows t
+  shown_chain : chained x ≡ true → long t ≡ false → Linked (follows t) e → ltb 0 (at 8 q) ≡ follows t
   unfolding instruction_row extensions
-  shown-chain z y k = rw (z, y, add-zero (type_bits e)) (chain_shown k)
+  shown_chain z y k = rw (z, y, add-zero (type_bits e)) (chain_shown k)
 
   unsized : chained x ≡ true → long t ≡ false → sized t ≡ false
   unfolding sized
@@ -142,16 +142,16 @@ module _ (at₀ r w t : ℕ) (e : List ℕ) (ps : List Tree) where
       go true f = let n = chainless_53 (code t) f in impossible (cc)
       go false f = y
 
-  row-extended : Head x t e → cond (ltb 0 (at 8 q)) 1 0 ≡ cond (chained x || long t) (bits 31 31 t) 0
-  row-extended h = go (long t) (chained x) refl refl
+  row_extended : Head x t e → cond (ltb 0 (at 8 q)) 1 0 ≡ cond (chained x || long t) (bits 31 31 t) 0
+  row_extended h = go (long t) (chained x) refl refl
     where
       go : (l c : Bool) → long t ≡ l → chained x ≡ c → cond (ltb 0 (at 8 q)) 1 0 ≡ cond (c || l) (bits 31 31 t) 0
       go true true y z = let n = long_chainless t y in impossible (cc)
-      go true false y z = rw (shown-long z, y) (sym (bit31 t true (long_follows t y)))
+      go true false y z = rw (shown_long z, y) (sym (bit31 t true (long_follows t y)))
       go false true y z =
           let k : Linked (follows t) e = rw z at (h.linked (unsized z y)) in
-          rw (shown-chain z y k) (sym (bit31 t (follows t) refl))
-      go false false y z = rw (shown-long z, y)
+          rw (shown_chain z y k) (sym (bit31 t (follows t) refl))
+      go false false y z = rw (shown_long z, y)
 
   row_size : (after : List ℕ) → length (dwords (pieces t e ps)) ≡ length_of t after → cond (sized_row q) 0 (at 1 q) ≡ cond (sized t) 0 (bits 24 30 t)
   unfolding length_of instruction_row
@@ -163,11 +163,11 @@ module _ (at₀ r w t : ℕ) (e : List ℕ) (ps : List Tree) where
 
   pub row_token : (after : List ℕ) → Head x t e → length (dwords (pieces t e ps)) ≡ length_of t after → eqb t (token_with (code t) (fields_of x t)) ≡ true → token_of_row q ≡ t
   unfolding token_of_row fields_of instruction_row
-  row_token after h n k = rw (row_size after n, row-extended h) (sym (eqb-true t _ k))
+  row_token after h n k = rw (row_size after n, row_extended h) (sym (eqb-true t _ k))
 
-  row-chain : sized t ≡ false → Head x t e → rising 0 (extensions x e) ≡ true → cond (chained x) (chain_of (at 8 q) (at 9 q) (at 10 q) (at 11 q)) [] ≡ e
+  row_chain : sized t ≡ false → Head x t e → rising 0 (extensions x e) ≡ true → cond (chained x) (chain_of (at 8 q) (at 9 q) (at 10 q) (at 11 q)) [] ≡ e
   unfolding instruction_row extensions
-  row-chain z h k = go (chained x) (h.linked z) k
+  row_chain z h k = go (chained x) (h.linked z) k
     where
       go : (c : Bool) → Linked (c && follows t) e → rising 0 (cond c e []) ≡ true →
           cond c (chain_of (type_bits (cond c e []) + cond (long t) 8 0) (bits 9 20 (of_type 1 (cond c e []))) (of_type 2 (cond c e []) % 2 ^ 31) (of_type 3 (cond c e []) % 2 ^ 31)) [] ≡ e
@@ -180,14 +180,14 @@ module _ (at₀ r w t : ℕ) (e : List ℕ) (ps : List Tree) where
     where
       go : (b : Bool) → sized t ≡ b → length (dwords (pieces t e ps)) ≡ cond b (get_or (e ++ after) 0 0) (bits 24 30 t) → cond b (at 1 q ∷ []) (cond (chained (layout (at 2 q))) (chain_of (at 8 q) (at 9 q) (at 10 q) (at 11 q)) []) ≡ e
       go true z n = unfold instruction_row in (ap (λ (y : ℕ). y ∷ []) n ∙ one_dword_lem e after (h.one z))
-      go false z n = unfold instruction_row in row-chain z h k
+      go false z n = unfold instruction_row in row_chain z h k
 
 -- ---- an instruction is made again from its row, its operands' rows and its words
 abbrev Remade : Bool → Instruction → Type 0
 Remade m i = (at₀ r w : ℕ) (R : List ℕ) → make_instruction m (instruction_row at₀ r w i) (parts_table r w (parts i) ++ R) (parts_words (parts i)) ≡ these (dwords i) R []
 
 unread_again : (m : Bool) (ds : List ℕ) → Remade m (unread ds)
-unfolding make_instruction makeItem instruction_row unread_row parts parts_table parts_words tree_table tree_words dwords
+unfolding make_instruction make_item instruction_row unread_row parts parts_table parts_words tree_table tree_words dwords
 unread_again m ds at₀ r w R = rw (append-nil, append-nil ds, take-length ds, drop-length ds)
 
 pub record Exact (t : ℕ) (e : List ℕ) (ps : List Tree) : Type 0 where
@@ -244,7 +244,7 @@ read_again c m t ds after n = kept_if (ltb (code t) c) _ _ (λ k. judged_again m
 
 -- ---- what its row says is exact, and its kind depends on code and ceiling only
 pub data Sound (ceiling : ℕ) : Instruction → Type 0 where
-  not-read : {ds : List ℕ} → ltb (code_of ds) ceiling ≡ false → Sound ceiling (unread ds)
+  not_read : {ds : List ℕ} → ltb (code_of ds) ceiling ≡ false → Sound ceiling (unread ds)
   exact_read : {t : ℕ} {e : List ℕ} {ps : List Tree} → ltb (code t) ceiling ≡ true → Exact t e ps → Sound ceiling (pieces t e ps)
 
 checked_sound : (c : ℕ) (m : Bool) (t : ℕ) {i : Instruction} → ltb (code t) c ≡ true → Known m t i → Kept (Sound c) (checked (layout (code t)) i)
@@ -258,7 +258,7 @@ judged_sound c m t z (met k) = checked_sound c m t z k
 
 pub read_sound : (c : ℕ) (m : Bool) (t : ℕ) (ds : List ℕ) → Kept (Sound c) (read c m (t ∷ ds))
 unfolding read code_of
-read_sound c m t ds = kept_if (ltb (code t) c) _ _ (λ k. judged_sound c m t k (split_known m t ds)) (λ k. kept (not-read k))
+read_sound c m t ds = kept_if (ltb (code t) c) _ _ (λ k. judged_sound c m t k (split_known m t ds)) (λ k. kept (not_read k))
 
 -- the kind that a code has under a ceiling
 abbrev pub kind_under : ℕ → ℕ → ℕ
@@ -266,7 +266,7 @@ kind_under ceiling c = cond (ltb c ceiling) (layout c).kind 0
 
 pub sound_kind : {c : ℕ} {i : Instruction} → Sound c i → (at₀ r w : ℕ) → at 3 (instruction_row at₀ r w i) ≡ kind_under c (at 2 (instruction_row at₀ r w i))
 unfolding instruction_row unread_row
-sound_kind (not-read z) at₀ r w = rw z
+sound_kind (not_read z) at₀ r w = rw z
 sound_kind (exact_read z x) at₀ r w = rw z
 
 pub row_words : (at₀ r w : ℕ) (i : Instruction) → at 15 (instruction_row at₀ r w i) ≡ length (parts_words (parts i))

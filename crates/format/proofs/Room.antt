@@ -21,7 +21,7 @@ use Rattle.format.specs.Encoder.{held, Gives}
 use Rattle.format.proofs.Dwords.{impossible, length_dwords}
 use Rattle.format.proofs.Rows.{all_fit, rows_length, parts_length, rows_append, words_append, table_append, four_lengths}
 use Rattle.format.proofs.Chains.{rose}
-use Rattle.format.proofs.Remade.{Sound, not-read, exact_read, every_kind, read_sound}
+use Rattle.format.proofs.Remade.{Sound, not_read, exact_read, every_kind, read_sound}
 use Rattle.format.proofs.Instructions.{kept_ok, read_restores}
 use Rattle.format.proofs.Refusals.{Reads, nil, cons, reads_dwords, Chunk, chunk_accepted}
 use Rattle.format.proofs.Encoder.{rows_of, given}
@@ -150,9 +150,9 @@ fit_row r w t e m a b c ht n =
 
 record Parts (r w : ℕ) (t : ℕ) (m : List ℕ) (a b c : Tree) : Type 0 where
   token : t < 2 ^ 32
-  fit-a : Fit (op.dwords a)
-  fit-b : Fit (op.dwords b)
-  fit-c : Fit (op.dwords c)
+  fit_a : Fit (op.dwords a)
+  fit_b : Fit (op.dwords b)
+  fit_c : Fit (op.dwords c)
   first : Within (r + 1) (w + length m) a
   second : Within (r + 1 + tree_rows a) (w + length m + length (tree_words a)) b
   third : Within (r + 1 + tree_rows a + tree_rows b) (w + length m + length (tree_words a) + length (tree_words b)) c
@@ -169,9 +169,9 @@ node_parts r w t e m a b c f n =
     let l = four_lengths (t ∷ e ++ m) (op.dwords a) (op.dwords b) (op.dwords c) in
     record {
       token = head_fits f;
-      fit-a = fit_back (t ∷ e ++ m) (op.dwords a) f₂;
-      fit-b = fit_back (t ∷ e ++ m ++ op.dwords a) (op.dwords b) f₁;
-      fit-c = fit_back (t ∷ e ++ m ++ op.dwords a ++ op.dwords b) (op.dwords c) f;
+      fit_a = fit_back (t ∷ e ++ m) (op.dwords a) f₂;
+      fit_b = fit_back (t ∷ e ++ m ++ op.dwords a) (op.dwords b) f₁;
+      fit_c = fit_back (t ∷ e ++ m ++ op.dwords a ++ op.dwords b) (op.dwords c) f;
       first = record { rows = omega (arith, k.rows); words = omega (arith, k.words); dwords = omega (arith, n.dwords, l) };
       second = record { rows = omega (arith, k.rows); words = omega (arith, k.words); dwords = omega (arith, n.dwords, l) };
       third = record { rows = omega (arith, k.rows); words = omega (arith, k.words); dwords = omega (arith, n.dwords, l) };
@@ -183,7 +183,7 @@ fit_table r w none f n = empty
 fit_table r w (plain x c) f n = fit_table r (w + length x) c (unfold op.dwords in fit_back x (op.dwords c) f) (unfold tree_rows tree_words op.dwords in record { rows = n.rows; words = omega (arith, n.words, length-append x (tree_words c)); dwords = omega (arith, n.dwords, length-append x (op.dwords c)) })
 fit_table r w (node t e m a b c) f n =
     let p = node_parts r w t e m a b c f n in
-    fit_append (fit_append (fit_append (fit_row r w t e m a b c p.token n) (fit_table (r + 1) (w + length m) a p.fit-a p.first)) (fit_table (r + 1 + tree_rows a) (w + length m + length (tree_words a)) b p.fit-b p.second)) (fit_table (r + 1 + tree_rows a + tree_rows b) (w + length m + length (tree_words a) + length (tree_words b)) c p.fit-c p.third)
+    fit_append (fit_append (fit_append (fit_row r w t e m a b c p.token n) (fit_table (r + 1) (w + length m) a p.fit_a p.first)) (fit_table (r + 1 + tree_rows a) (w + length m + length (tree_words a)) b p.fit_b p.second)) (fit_table (r + 1 + tree_rows a + tree_rows b) (w + length m + length (tree_words a) + length (tree_words b)) c p.fit_c p.third)
 
 fit_parts : (r w : ℕ) (ps : List Tree) → Fit (op.parts_dwords ps) → r + parts_rows ps < 2 ^ 32 → w + length (parts_words ps) < 2 ^ 32 → length (op.parts_dwords ps) < 2 ^ 32 → Fit (parts_table r w ps)
 unfolding op.parts_dwords parts_rows parts_words parts_table
@@ -228,7 +228,7 @@ kind_fits c = every_kind (λ k. k < 2 ^ 32) (lit< tt) (lit< tt) (lit< tt) (lit< 
 
 fit_instruction : {c : ℕ} (at₀ r w : ℕ) {i : Instruction} → Sound c i → Fit (dwords i) → at₀ + 4 * length (dwords i) ≤ 1_048_576 → r + parts_rows (parts i) < 2 ^ 32 → w + length (parts_words (parts i)) < 2 ^ 32 → Fit (instruction_row at₀ r w i)
 unfolding instruction_row unread_row dwords parts
-fit_instruction at₀ r w (not-read {ds = ds} z) f ha hr hw =
+fit_instruction at₀ r w (not_read {ds = ds} z) f ha hr hw =
     let n : code_of ds < 2 ^ 32 = unfold code_of in omega arith in
     also at₀ (omega arith) (also (length ds) (omega arith) (also (code_of ds) n (also 0 (omega arith) (also 0 (omega arith) (also 0 (omega arith) (also 0 (omega arith) (also 0 (omega arith)
     (also 0 (omega arith) (also 0 (omega arith) (also 0 (omega arith) (also 0 (omega arith) (also r (omega arith) (also 0 (omega arith) (also w (omega arith) (also (length ds) (omega arith) empty)))))))))))))))

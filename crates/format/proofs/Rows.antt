@@ -74,10 +74,10 @@ parts_fit (x ∷ l) = omega (arith, length-append (tree_words x) (parts_words l)
 
 pub instruction_fits : (i : Instruction) → parts_rows (parts i) + length (parts_words (parts i)) ≤ length (dwords i)
 unfolding parts dwords
-instruction_fits (unread ds) = omega (arith, parts_fit (plain ds none ∷ []), unread-dwords)
+instruction_fits (unread ds) = omega (arith, parts_fit (plain ds none ∷ []), unread_dwords)
   where
-    unread-dwords : length (op.parts_dwords (plain ds none ∷ [])) ≡ length ds
-    unread-dwords = unfold op.parts_dwords op.dwords in simp length-append (omega arith)
+    unread_dwords : length (op.parts_dwords (plain ds none ∷ [])) ≡ length ds
+    unread_dwords = unfold op.parts_dwords op.dwords in simp length-append (omega arith)
 instruction_fits (pieces t e ps) = omega (arith, parts_fit ps, length-append e (op.parts_dwords ps))
 
 pub all_fit : (l : List Instruction) → parts_rows (all_parts l) + length (parts_words (all_parts l)) ≤ length (all_dwords l)

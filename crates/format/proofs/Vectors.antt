@@ -153,7 +153,7 @@ moves version counted unused = record {
 }
 
 unfoldable pub encoding : ℕ → Rows → ℕ → Encoding
-unfolding reading encode encoder.extension_of encoder.operand_dword encoder.make_index encoder.make_rest encoder.make_operand encoder.makeItem encoder.makeItems encoder.chain_of encoder.sized_row encoder.token_of_row encoder.head_of_row encoder.make_instruction encoder.make_all encoder.past_pool encoder.held encoder.chunk_of encoder.made encoder.same encoder.gives encoder.chunk_giving
+unfolding reading encode encoder.extension_of encoder.operand_dword encoder.make_index encoder.make_rest encoder.make_operand encoder.make_item encoder.make_items encoder.chain_of encoder.sized_row encoder.token_of_row encoder.head_of_row encoder.make_instruction encoder.make_all encoder.past_pool encoder.held encoder.chunk_of encoder.made encoder.same encoder.gives encoder.chunk_giving
 encoding e q size = encode e q size
 
 abbrev pub refusals : List Refusal → List Encoding

@@ -61,17 +61,17 @@ make_operand (suc k) = λ rs ws.
     (these (operand_dword q ∷ extension_of (at 3 q)) ⨾ make_rest (make_operand k) (operand_dword q)) (drop 16 rs) ws
 
 module _ (model51 : Bool) where
-  unfoldable pub makeItem : Item → Maker
-  makeItem o = make_operand 64
-  makeItem d = words 1
-  makeItem small = words 1
-  makeItem s = words (cond model51 1 0)
-  makeItem tail = λ rs ws. words (length ws) rs ws
-  makeItem (list b) = λ rs ws. words (1 + at 0 ws % 2 ^ b) rs ws
+  unfoldable pub make_item : Item → Maker
+  make_item o = make_operand 64
+  make_item d = words 1
+  make_item small = words 1
+  make_item s = words (cond model51 1 0)
+  make_item tail = λ rs ws. words (length ws) rs ws
+  make_item (list b) = λ rs ws. words (1 + at 0 ws % 2 ^ b) rs ws
 
-  unfoldable pub makeItems : List Item → Maker
-  makeItems [] = these []
-  makeItems (i ∷ l) = makeItem i ⨾ makeItems l
+  unfoldable pub make_items : List Item → Maker
+  make_items [] = these []
+  make_items (i ∷ l) = make_item i ⨾ make_items l
 
 -- a chain, by extension bits n and words 9 to 11; each dword but the last says that another follows
 unfoldable pub chain_of : ℕ → ℕ → ℕ → ℕ → List ℕ
@@ -93,7 +93,7 @@ head_of_row q = cond (sized_row q) (at 1 q ∷ []) (cond (chained (layout (at 2 
 
 -- an instruction from its row, operand rows and its own words; the words of an unread one are its dwords
 unfoldable pub make_instruction : Bool → List ℕ → Maker
-make_instruction model51 q = cond (eqb (at 3 q) 0) (makeItem model51 tail) (these (token_of_row q ∷ head_of_row q) ⨾ makeItems model51 (layout (at 2 q)).items)
+make_instruction model51 q = cond (eqb (at 3 q) 0) (make_item model51 tail) (these (token_of_row q ∷ head_of_row q) ⨾ make_items model51 (layout (at 2 q)).items)
 
 -- n instructions from their rows, operand rows and words
 unfoldable pub make_all : ℕ → Bool → List ℕ → List ℕ → List ℕ → List ℕ

@@ -24,13 +24,13 @@ length_of t next = cond (sized t) (get_or next 0 0) (bits 24 30 t)
 
 -- instructions, each with its dwords, up to the chunk's end, to one of zero length or to one that passes the end
 pub data Framed : Type 0 where
-  whole zeroLength pastEnd : Framed
+  whole zero_length past_end : Framed
   instruction : List ℕ → Framed → Framed
 
 -- an instruction of n dwords, and those after it
 abbrev pub cut : ℕ → Got (List ℕ) → (List ℕ → Framed) → Framed
-cut zero g f = zeroLength
-cut (suc n) malformed f = pastEnd
+cut zero g f = zero_length
+cut (suc n) malformed f = past_end
 cut (suc n) (got i l) f = instruction i (f l)
 
 -- a payload; each instruction has a dword, so as many steps as dwords are enough

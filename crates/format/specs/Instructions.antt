@@ -25,24 +25,24 @@ abbrev pub as_part : Reader (List ℕ) → Reader Tree
 as_part p ds = then (p ds) (λ x. give (plain x none))
 
 module _ (model51 : Bool) where
-  unfoldable pub readItem : Item → Reader Tree
-  readItem o = op.operand 64
-  readItem d = as_part (some 1)
-  readItem small = do
+  unfoldable pub read_item : Item → Reader Tree
+  read_item o = op.operand 64
+  read_item d = as_part (some 1)
+  read_item small = do
     x ← dword
     cond (ltb x 65_536) (give (plain (x ∷ []) none)) fail
-  readItem s = as_part (some (cond model51 1 0))
-  readItem tail = λ ds. got (plain ds none) []
-  readItem (list b) = do
+  read_item s = as_part (some (cond model51 1 0))
+  read_item tail = λ ds. got (plain ds none) []
+  read_item (list b) = do
     n ← dword
     x ← some (n % 2 ^ b)
     give (plain (n ∷ x) none)
 
-  unfoldable pub readItems : List Item → Reader (List Tree)
-  readItems [] = give []
-  readItems (i ∷ l) = do
-    p ← readItem i
-    ps ← readItems l
+  unfoldable pub read_items : List Item → Reader (List Tree)
+  read_items [] = give []
+  read_items (i ∷ l) = do
+    p ← read_item i
+    ps ← read_items l
     give (p ∷ ps)
 
   -- all the dwords of an instruction, by the layout of its code
@@ -50,7 +50,7 @@ module _ (model51 : Bool) where
   split x = do
     t ← dword
     e ← read_head x t
-    ps ← readItems x.items
+    ps ← read_items x.items
     none_left (pieces t e ps)
 
 -- an instruction that does not split so: 13 if it has a count, above 0; otherwise 14

@@ -5,7 +5,7 @@ use Rattle.format.specs.declared.Refusal.TheVariants.{Edition, FourCc, Short, No
 use Rattle.format.specs.declared.Answer.{Answer}
 use Rattle.format.specs.declared.Answer.TheVariants.{Accepted, Refused}
 use Rattle.format.specs.Dwords.{dword_of, dwords_of, bits}
-use Rattle.format.specs.Framing.{Framed, whole, zeroLength, pastEnd, instruction, frame, ceiling}
+use Rattle.format.specs.Framing.{Framed, whole, zero_length, past_end, instruction, frame, ceiling}
 use Rattle.format.specs.Counts.{within}
 use Rattle.format.specs.Instructions.{Instruction, Reading, ok, miscounted, inexact, read}
 use Rattle.format.specs.Rows.{instruction_rows, parts_rows, parts_words, parts_table, all_parts}
@@ -88,23 +88,23 @@ kept inexact l = l
 
 module _ (ceiling : ℕ) (model51 : Bool) where
   -- 11, 12, 13 for each instruction in turn, over the whole stream, of which at dwords stand before
-  unfoldable pub firstPass : ℕ → Framed → Option Refusal
-  firstPass at whole = none
-  firstPass at zeroLength = some (ZeroLength (4 * at))
-  firstPass at pastEnd = some (PastEnd (4 * at))
-  firstPass at (instruction i f) = let next = firstPass (at + length i) f in either (read ceiling model51 i) next (some (OperandCount (4 * at))) next
+  unfoldable pub first_pass : ℕ → Framed → Option Refusal
+  first_pass at whole = none
+  first_pass at zero_length = some (ZeroLength (4 * at))
+  first_pass at past_end = some (PastEnd (4 * at))
+  first_pass at (instruction i f) = let next = first_pass (at + length i) f in either (read ceiling model51 i) next (some (OperandCount (4 * at))) next
 
   -- only then 14, from the first instruction
-  unfoldable pub secondPass : ℕ → Framed → Option Refusal
-  secondPass at whole = none
-  secondPass at zeroLength = none
-  secondPass at pastEnd = none
-  secondPass at (instruction i f) = let next = secondPass (at + length i) f in either (read ceiling model51 i) next next (some (Layout (4 * at)))
+  unfoldable pub second_pass : ℕ → Framed → Option Refusal
+  second_pass at whole = none
+  second_pass at zero_length = none
+  second_pass at past_end = none
+  second_pass at (instruction i f) = let next = second_pass (at + length i) f in either (read ceiling model51 i) next next (some (Layout (4 * at)))
 
   unfoldable pub readings : Framed → List Instruction
   readings whole = []
-  readings zeroLength = []
-  readings pastEnd = []
+  readings zero_length = []
+  readings past_end = []
   readings (instruction i f) = kept (read ceiling model51 i) (readings f)
 
 -- what comes of a chunk: a refusal; or its version token and what was read
@@ -126,7 +126,7 @@ body ceiling ds =
     let version = get_or ds 0 0 in
     let m = is_model51 version in
     let f = frame (length ds) (drop 2 ds) in
-    unless (firstPass ceiling m 2 f) (unless (secondPass ceiling m 2 f) (accepted version (readings ceiling m f)))
+    unless (first_pass ceiling m 2 f) (unless (second_pass ceiling m 2 f) (accepted version (readings ceiling m f)))
 
 -- a chunk, whatever the pools
 unfoldable pub read_chunk : ℕ → ℕ → List ℕ → Outcome

@@ -53,10 +53,10 @@ module _ (ds : List ℕ) (t n : ℕ) (some-there : 0 < length ds) (et : t ≡ ge
   front = headed_at y t ds some-there x.ends refl
 
   -- with no operand nothing is lost
-  some-lost : (k : ℕ) {q : Operands} → Run k ds at q → q ≡ Lost → 0 < k
-  some-lost (suc k) run e = omega arith
-  some-lost zero (ran a b k f) e = impossible (cc)
-  some-lost zero (lost f) e =
+  some_lost : (k : ℕ) {q : Operands} → Run k ds at q → q ≡ Lost → 0 < k
+  some_lost (suc k) run e = omega arith
+  some_lost zero (ran a b k f) e = impossible (cc)
+  some_lost zero (lost f) e =
       let z : sum 0 (length ds - at) true ≡ off = sym (tail_ends true ds at front.within) ∙ f true (tail ∷ []) in
       impossible (cc)
 
@@ -66,7 +66,7 @@ module _ (ds : List ℕ) (t n : ℕ) (some-there : 0 < length ds) (et : t ≡ ge
       count_above y (ap (λ (x : Layout). x.kind) (laid (code t) n h)) (n + 1) k (omega arith)
 
   pub operands_lost : {q : Operands} → Run n ds at q → q ≡ Lost → Judged t ds Miscounted
-  operands_lost run k m = parts_off y m ds t some-there et front (miscounted (some-lost n run k)) (lost_parts t n h m ds at run k) refl
+  operands_lost run k m = parts_off y m ds t some-there et front (miscounted (some_lost n run k)) (lost_parts t n h m ds at run k) refl
 
   module _ {rows words end : ℕ} {exact : Bool} {q : Operands} (run : Run n ds at q) (k : q ≡ Read rows words end exact) where
     pub operands_inexact : exact ≡ false → Judged t ds Inexact

@@ -56,11 +56,11 @@ module _ (t u n : ℕ) (h : operand_count (code t) ≡ some n) (up : t ≡ u + 2
   x = shape (code t) n h
 
   -- the same fields, but for bit 31
-  field-bits : (w : ℕ) → width_of (code t) ≡ w → (v : ℕ) → field_in x.field v ≡ v / 2 ^ 11 % 2 ^ w
-  field-bits w e v = sym (value (plain_shape 1 (width_of (code t)) n true) v (counts (code t) n h).sound) ∙ mul-one _ ∙ ap (λ (k : ℕ). v / 2 ^ 11 % 2 ^ k) e
+  field_bits : (w : ℕ) → width_of (code t) ≡ w → (v : ℕ) → field_in x.field v ≡ v / 2 ^ 11 % 2 ^ w
+  field_bits w e v = sym (value (plain_shape 1 (width_of (code t)) n true) v (counts (code t) n h).sound) ∙ mul-one _ ∙ ap (λ (k : ℕ). v / 2 ^ 11 % 2 ^ k) e
 
-  same-field : field_in x.field t ≡ field_in x.field u
-  same-field = go (eqb (code t) 61 || eqb (code t) 111) refl (eqb (code t) 190) refl
+  same_field : field_in x.field t ≡ field_in x.field u
+  same_field = go (eqb (code t) 61 || eqb (code t) 111) refl (eqb (code t) 190) refl
     where
       two : t / 2 ^ 11 % 2 ^ 2 ≡ u / 2 ^ 11 % 2 ^ 2
       two = omega arith
@@ -69,7 +69,7 @@ module _ (t u n : ℕ) (h : operand_count (code t) ≡ some n) (up : t ≡ u + 2
       four = omega arith
 
       with : (w : ℕ) → width_of (code t) ≡ w → t / 2 ^ 11 % 2 ^ w ≡ u / 2 ^ 11 % 2 ^ w → field_in x.field t ≡ field_in x.field u
-      with w e z = field-bits w e t ∙ z ∙ sym (field-bits w e u)
+      with w e z = field_bits w e t ∙ z ∙ sym (field_bits w e u)
 
       go : (a : Bool) → (eqb (code t) 61 || eqb (code t) 111) ≡ a → (b : Bool) → eqb (code t) 190 ≡ b → field_in x.field t ≡ field_in x.field u
       go true p b q = with 2 (unfold width_of in rw p) two
@@ -79,21 +79,21 @@ module _ (t u n : ℕ) (h : operand_count (code t) ≡ some n) (up : t ≡ u + 2
   raised : (c f s e p l y z : ℕ) → y ≡ 1 → z ≡ 0 → c + f * 2 ^ 11 + s * 2 ^ 13 + e * 2 ^ 18 + p * 2 ^ 19 + l * 2 ^ 24 + y * 2 ^ 31 ≡ c + f * 2 ^ 11 + s * 2 ^ 13 + e * 2 ^ 18 + p * 2 ^ 19 + l * 2 ^ 24 + z * 2 ^ 31 + 2 ^ 31
   raised c f s e p l y z a b = omega arith
 
-  bit-13 : bits 13 13 t ≡ bits 13 13 u
-  bit-13 = omega arith
+  bit_13 : bits 13 13 t ≡ bits 13 13 u
+  bit_13 = omega arith
 
-  bit-18 : bits 18 18 t ≡ bits 18 18 u
-  bit-18 = omega arith
+  bit_18 : bits 18 18 t ≡ bits 18 18 u
+  bit_18 = omega arith
 
-  bits-19 : bits 19 22 t ≡ bits 19 22 u
-  bits-19 = omega arith
+  bits_19 : bits 19 22 t ≡ bits 19 22 u
+  bits_19 = omega arith
 
-  bits-24 : bits 24 30 t ≡ bits 24 30 u
-  bits-24 = omega arith
+  bits_24 : bits 24 30 t ≡ bits 24 30 u
+  bits_24 = omega arith
 
-  token-raised : token_with (code t) (fields_of x t) ≡ token_with (code u) (fields_of x u) + 2 ^ 31
+  token_raised : token_with (code t) (fields_of x t) ≡ token_with (code u) (fields_of x u) + 2 ^ 31
   unfolding fields_of
-  token-raised = rw (unsized t n h, unsized u n h', same_code, same-field, bit-13, bit-18, bits-19, bits-24) (raised _ _ _ _ _ _ _ _ (omega arith) (omega arith))
+  token_raised = rw (unsized t n h, unsized u n h', same_code, same_field, bit_13, bit_18, bits_19, bits_24) (raised _ _ _ _ _ _ _ _ (omega arith) (omega arith))
 
   -- u is its fields, so t is
   lower : u ≡ token_with (code u) (fields_of x u)
@@ -103,14 +103,14 @@ module _ (t u n : ℕ) (h : operand_count (code t) ≡ some n) (up : t ≡ u + 2
       eqb-true _ _ (both _ _ (both _ _ (both _ _ a).0).0).0
 
   upper : t ≡ token_with (code t) (fields_of x t)
-  upper = up ∙ ap (λ (k : ℕ). k + 2 ^ 31) lower ∙ sym token-raised
+  upper = up ∙ ap (λ (k : ℕ). k + 2 ^ 31) lower ∙ sym token_raised
 
   followed : true ≡ follows t
   unfolding follows
   followed = sym (eq-eqb (bits 31 31 t) 1 (omega arith))
 
-  risen-headed : (e : List ℕ) (k : ℕ) → true ≡ rising 0 e → true ≡ headed (layout (code t)) t e k
-  risen-headed e k r = rw (laid (code t) n h) (class_decides x t e k true (sym (eq-eqb _ _ upper)) refl true (chained_head 1 e (omega arith) r) refl true (unbounded (plain_shape 1 (width_of (code t)) n true) t (counts (code t) n h).sound refl) refl true (another_kind 1 t k (λ z. omega arith)))
+  risen_headed : (e : List ℕ) (k : ℕ) → true ≡ rising 0 e → true ≡ headed (layout (code t)) t e k
+  risen_headed e k r = rw (laid (code t) n h) (class_decides x t e k true (sym (eq-eqb _ _ upper)) refl true (chained_head 1 e (omega arith) r) refl true (unbounded (plain_shape 1 (width_of (code t)) n true) t (counts (code t) n h).sound refl) refl true (another_kind 1 t k (λ z. omega arith)))
 
 -- ---- the code's way through the chain
 module _ (t : ℕ) (ds : List ℕ) (there : 0 < length ds) {a : Skip} (ea : a ≡ ends 1 (chain true (drop 1 ds))) {end : ℕ} (e : a ≡ To end) where
@@ -120,7 +120,7 @@ module _ (t : ℕ) (ds : List ℕ) (there : 0 < length ds) {a : Skip} (ea : a �
   pub chain_begins : (u : ℕ) → u ≡ t - 2 ^ 31 → 2 ^ 31 ≤ t → t < 2 ^ 32 → plain_token u ≡ true → true ≡ rising 0 (slice 1 end ds) → Begun t ds end
   chain_begins u eu high small plain r l n h = record {
     ends = sym e ∙ ea ∙ ap (λ (b : Bool). ends 1 (chain b (drop 1 ds))) (followed t u n h (omega arith) (omega arith) plain) ∙ ap (ends 1) (sym (chain_head t n h (drop 1 ds)));
-    exact = risen-headed t u n h (omega arith) (omega arith) plain (slice 1 end ds) (length ds - end) r;
+    exact = risen_headed t u n h (omega arith) (omega arith) plain (slice 1 end ds) (length ds - end) r;
   }
 
 -- ---- a part that is lent whole

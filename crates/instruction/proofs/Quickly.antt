@@ -38,21 +38,21 @@ module _ (t : ℕ) (x : Shape) (l : Declared (code t) x) (bare : bare_token x t 
     ran : (1 + x.before ≤ end) × (end ≤ length ds) × (x.operands + (end - (1 + x.before) - x.operands) ≤ end - (1 + x.before))
     ran = run_within run refl
 
-    rest-ends : Ends m (rest x) ds end true
-    rest-ends =
+    rest_ends : Ends m (rest x) ds end true
+    rest_ends =
         let a = x.after + cond m x.extra 0 in
         let u : end + x.small ≤ length ds = omega arith in
         let v : end + x.small + a ≡ length ds = omega arith in
         rw (eq-eqb _ _ v) at (ends_there m x ds end (small yes inside) (end + x.small) refl a refl (passes_dwords ds (end + x.small) u a (omega arith)) (end + x.small + a) refl (no_list ds (end + x.small + a) (omega arith) (length ds) refl x.list unlisted) (end + x.small + a) refl l.ends (length ds) refl)
 
     body : BodyRead x.operands (1 + x.before - 1 + (end - (1 + x.before) - x.operands) + (length ds - end)) true ≡ body_of (sum_of m (items_of x) (drop 1 ds))
-    body = body_read m x ds 1 (passes_dwords ds 1 h x.before (omega (arith, ran))) (1 + x.before) refl run refl true rest-ends refl (length ds) refl
+    body = body_read m x ds 1 (passes_dwords ds 1 h x.before (omega (arith, ran))) (1 + x.before) refl run refl true rest_ends refl (length ds) refl
 
     words : end + w - 1 - x.operands ≡ 1 + x.before - 1 + (end - (1 + x.before) - x.operands) + (length ds - end)
     words = omega (arith, ran)
 
-    is-fine : Fine x.operands (end + w - 1 - x.operands) ≡ verdict (judged (layout (code t)) (split m (layout (code t)) ds))
-    is-fine =
+    is_fine : Fine x.operands (end + w - 1 - x.operands) ≡ verdict (judged (layout (code t)) (split m (layout (code t)) ds))
+    is_fine =
         subst (λ (y : Layout). Fine x.operands (end + w - 1 - x.operands) ≡ verdict (judged y (split m y ds))) l.laid.meaning
         (ap (Fine x.operands) words ∙ all_fine (meant x) m ds t h et (begins t x l bare ds h) body refl refl true (all_exact t x l bare (slice 1 1 ds) (length ds - 1)) refl)
 
@@ -60,7 +60,7 @@ module _ (t : ℕ) (x : Shape) (l : Declared (code t) x) (bare : bare_token x t 
     room = omega (arith, ran)
 
   pub quickly : Quick m t x ds (end + w)
-  quickly = record { fits = room; fine = is-fine }
+  quickly = record { fits = room; fine = is_fine }
 
 -- 0 is no number of dwords
 pub not_quick : (m : Bool) (t : ℕ) (x : Shape) (ds : List ℕ) → 0 < length ds → Quick m t x ds 0

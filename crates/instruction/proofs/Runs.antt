@@ -10,7 +10,7 @@ use Rattle.format.specs.Dwords.{Got, malformed, got}
 use Rattle.format.specs.Declarations.{Item, o}
 use Rattle.format.specs.Operands as op
 use Rattle.format.specs.Operands.{Tree}
-use Rattle.format.specs.Instructions.{readItem}
+use Rattle.format.specs.Instructions.{read_item}
 use Rattle.format.specs.Rows.{tree_rows, tree_words}
 use Rattle.format.proofs.Dwords.{impossible, All, unmet, met}
 use Rattle.format.proofs.Operands.{makes_operand}
@@ -41,11 +41,11 @@ taken ds at h t r e =
     record {
       within = omega arith;
       fits = tree_fits t;
-      adds = λ m l. rw (← q) (item_step m o l (drop at ds) t r (unfold readItem in e));
+      adds = λ m l. rw (← q) (item_step m o l (drop at ds) t r (unfold read_item in e));
     }
 
 pub lost : (ds : List ℕ) (at : ℕ) → op.operand 64 (drop at ds) ≡ malformed → (m : Bool) (l : List Item) → sum_of m (o ∷ l) (drop at ds) ≡ off
-lost ds at e m l = item_off m o l (drop at ds) (unfold readItem in e)
+lost ds at e m l = item_off m o l (drop at ds) (unfold read_item in e)
 
 -- i of k operands have been read, up to a place
 pub record Reading (k : ℕ) (ds : List ℕ) (from i at rows words : ℕ) (exact : Bool) : Type 0 where

@@ -40,8 +40,8 @@ module _ (m : Bool) (x : Shape) (ds : List ℕ) (at : ℕ) {p : Place} (p₁ : P
     operands_off (lost f) e = sym (ap body_of (behind ∙ ap (add 0 (a - at) true) (f m (rest x))))
 
     module _ {rows words end : ℕ} {exact : Bool} {q : Operands} (r : Run x.operands ds a q) (er : q ≡ Read rows words end exact) where
-      after-operands : sum_of m (items_of x) (drop at ds) ≡ add 0 (a - at) true (add rows words exact (sum_of m (rest x) (drop end ds)))
-      after-operands = go r er
+      after_operands : sum_of m (items_of x) (drop at ds) ≡ add 0 (a - at) true (add rows words exact (sum_of m (rest x) (drop end ds)))
+      after_operands = go r er
         where
           go : {q : Operands} → Run x.operands ds a q → q ≡ Read rows words end exact → sum_of m (items_of x) (drop at ds) ≡ add 0 (a - at) true (add rows words exact (sum_of m (rest x) (drop end ds)))
           go (ran {rows = r₁} {words = w₁} {end = e₁} {exact = x₁} h k n f) e =
@@ -53,10 +53,10 @@ module _ (m : Bool) (x : Shape) (ds : List ℕ) (at : ℕ) {p : Place} (p₁ : P
           go (lost f) e = impossible (cc)
 
       pub rest_off : (b : Bool) → Ends m (rest x) ds end b → b ≡ false → BodyOff ≡ body_of (sum_of m (items_of x) (drop at ds))
-      rest_off b e z = sym (ap body_of (after-operands ∙ ap (λ (y : Sum). add 0 (a - at) true (add rows words exact y)) (e ∙ ap (λ (q : Bool). cond q (sum 0 (length ds - end) true) off) z)))
+      rest_off b e z = sym (ap body_of (after_operands ∙ ap (λ (y : Sum). add 0 (a - at) true (add rows words exact y)) (e ∙ ap (λ (q : Bool). cond q (sum 0 (length ds - end) true) off) z)))
 
       pub body_read : (b : Bool) → Ends m (rest x) ds end b → b ≡ true → (n : ℕ) → n ≡ length ds → BodyRead rows (a - at + words + (n - end)) exact ≡ body_of (sum_of m (items_of x) (drop at ds))
-      body_read b e z n en = sym (ap body_of (after-operands ∙ ap (λ (y : Sum). add 0 (a - at) true (add rows words exact y)) (e ∙ ap (λ (q : Bool). cond q (sum 0 (length ds - end) true) off) z)) ∙ sums)
+      body_read b e z n en = sym (ap body_of (after_operands ∙ ap (λ (y : Sum). add 0 (a - at) true (add rows words exact y)) (e ∙ ap (λ (q : Bool). cond q (sum 0 (length ds - end) true) off) z)) ∙ sums)
         where
           and-true : (b : Bool) → (b && true) ≡ b
           and-true true = refl

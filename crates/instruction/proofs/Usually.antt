@@ -57,14 +57,14 @@ module _ (ds : List ℕ) (at : ℕ) (l : at < length ds) (t : ℕ) (et : t ≡ g
     here : Opened 64 ds at t (at + 1) true
     here = low_opened 64 ds at (λ z. omega arith) l t et q true (sym x)
 
-    immediates-long : op.immediate t ≡ true → t < 2 ^ 20 → (k : ℕ) → k ≡ 1 + op.immediates t → Long ds at k
-    immediates-long i s k e =
+    immediates_long : op.immediate t ≡ true → t < 2 ^ 20 → (k : ℕ) → k ≡ 1 + op.immediates t → Long ds at k
+    immediates_long i s k e =
         as_long (op.immediates t) k e (immediates_few t)
         (λ n. leaf_is here true (sym i) refl (leaf_read here.stands 0 (omega arith) refl (op.immediates t) refl (length ds) refl n))
         (λ n. leaf_is here true (sym i) refl (leaf_short here.stands 0 (omega arith) refl (op.immediates t) refl (length ds) refl n))
 
-    indices-long : op.immediate t ≡ false → (k : ℕ) → k ≡ 1 + t / 2 ^ 20 → Long ds at k
-    indices-long i k e =
+    indices_long : op.immediate t ≡ false → (k : ℕ) → k ≡ 1 + t / 2 ^ 20 → Long ds at k
+    indices_long i k e =
         let d : op.dimension t ≡ t / 2 ^ 20 = omega arith in
         as_long (op.dimension t) k (omega arith) (omega arith)
         (λ n. tree_is here false (sym i) refl (measured_flat here.stands (low_flat t q) (op.dimension t) refl (length ds) refl n (operand 63)))
@@ -86,12 +86,12 @@ module _ (ds : List ℕ) (at : ℕ) (l : at < length ds) (t : ℕ) (et : t ≡ g
           x = (both (ltb t 0x400000) (op.exact_dword t) p).1
 
           within : (i : Bool) → op.immediate t ≡ i → k ≡ cond i (cond (ltb t 0x100000) (1 + op.immediates t) 0) (1 + t / 0x100000) → Long ds at k
-          within false i e = indices-long q x i k e
+          within false i e = indices_long q x i k e
           within true i e = small (ltb t 0x100000) refl e
             where
               small : (b : Bool) → ltb t 0x100000 ≡ b → k ≡ cond b (1 + op.immediates t) 0 → Long ds at k
               small false s e = absurd (omega arith)
-              small true s e = immediates-long q x i (ltb-true t 0x100000 s) k e
+              small true s e = immediates_long q x i (ltb-true t 0x100000 s) k e
 
 -- ---- an operand with one extension
 module _ (ds : List ℕ) (at : ℕ) (l : at + 1 < length ds) (t : ℕ) (et : t ≡ get_or ds at 0) (x : ℕ) (ex : x ≡ get_or ds (at + 1) 0) (b : Bool)

@@ -12,7 +12,7 @@ use Rattle.format.specs.Framing.{code, code_of}
 use Rattle.format.specs.Declarations.{Layout, layout}
 use Rattle.format.specs.Operands as op
 use Rattle.format.specs.Operands.{Tree}
-use Rattle.format.specs.Instructions.{Instruction, pieces, ok, inexact, read_head, readItems, split, fault, exact_class, exact_pieces, checked, judged, read}
+use Rattle.format.specs.Instructions.{Instruction, pieces, ok, inexact, read_head, read_items, split, fault, exact_class, exact_pieces, checked, judged, read}
 use Rattle.format.specs.Rows.{parts_rows, parts_words, parts, tree_words, tree_rows}
 use Rattle.format.proofs.Dwords.{impossible, All, unmet, met}
 use Rattle.format.proofs.Instructions.{makes_items}
@@ -31,14 +31,14 @@ verdict_unread c m ds h = rw (le-ltb (code_of ds) c h, append-nil, append-nil ds
 
 -- what a sum says of the reading
 data Summed (m : Bool) (x : Layout) (ds : List ℕ) : Sum → Type 0 where
-  lost : ((f : List Tree → Instruction) → then (readItems m x.items ds) (λ ps. none_left (f ps)) ≡ malformed) → Summed m x ds off
-  kept : {ps : List Tree} → readItems m x.items ds ≡ got ps [] → Summed m x ds (sum (parts_rows ps) (length (parts_words ps)) (op.exact_parts ps))
+  lost : ((f : List Tree → Instruction) → then (read_items m x.items ds) (λ ps. none_left (f ps)) ≡ malformed) → Summed m x ds off
+  kept : {ps : List Tree} → read_items m x.items ds ≡ got ps [] → Summed m x ds (sum (parts_rows ps) (length (parts_words ps)) (op.exact_parts ps))
 
 summed : (m : Bool) (x : Layout) (ds : List ℕ) → Summed m x ds (sum_of m x.items ds)
 unfolding sum_of none_left
-summed m x ds = go (readItems m x.items ds) refl
+summed m x ds = go (read_items m x.items ds) refl
   where
-    go : (g : Got (List Tree)) → readItems m x.items ds ≡ g → Summed m x ds (total (then g (λ ps. none_left ps)))
+    go : (g : Got (List Tree)) → read_items m x.items ds ≡ g → Summed m x ds (total (then g (λ ps. none_left ps)))
     go malformed e = lost (λ f. rw e)
     go (got ps []) e = kept e
     go (got ps (y ∷ r)) e = lost (λ f. rw e)
@@ -61,7 +61,7 @@ unfolding read code_of
 verdict_known c m ds t et k = rw (← et, lt-ltb (code t) c k)
 
 module _ (x : Layout) (m : Bool) (ds : List ℕ) (t : ℕ) (h : 0 < length ds) (et : t ≡ get_or ds 0 0) where
-  split_head : split m x ds ≡ then (read_head x t (drop 1 ds)) (λ e r. then (readItems m x.items r) (λ ps. none_left (pieces t e ps)))
+  split_head : split m x ds ≡ then (read_head x t (drop 1 ds)) (λ e r. then (read_items m x.items r) (λ ps. none_left (pieces t e ps)))
   unfolding split
   split_head = rw (dword_first ds h, ← et)
 
@@ -76,8 +76,8 @@ module _ (x : Layout) (m : Bool) (ds : List ℕ) (t : ℕ) (h : 0 < length ds) (
     abbrev e : List ℕ
     e = slice 1 b ds
 
-    items-lost : sum_of m x.items (drop b ds) ≡ off → verdict (fault x) ≡ verdict (judged x (split m x ds))
-    items-lost z = go (summed m x (drop b ds)) z
+    items_lost : sum_of m x.items (drop b ds) ≡ off → verdict (fault x) ≡ verdict (judged x (split m x ds))
+    items_lost z = go (summed m x (drop b ds)) z
       where
         go : {a : Sum} → Summed m x (drop b ds) a → a ≡ off → verdict (fault x) ≡ verdict (judged x (split m x ds))
         go (lost f) z = faulty (split_head ∙ rw k.is (f (λ ps. pieces t e ps)))
@@ -87,7 +87,7 @@ module _ (x : Layout) (m : Bool) (ds : List ℕ) (t : ℕ) (h : 0 < length ds) (
     abbrev fine : Bool → Bool
     fine ex = headed x t e (length ds - b) && ex
 
-    checks : (ps : List Tree) → readItems m x.items (drop b ds) ≡ got ps [] → cond (fine (op.exact_parts ps)) (Fine (parts_rows ps) (length (parts_words ps))) Inexact ≡ verdict (judged x (split m x ds))
+    checks : (ps : List Tree) → read_items m x.items (drop b ds) ≡ got ps [] → cond (fine (op.exact_parts ps)) (Fine (parts_rows ps) (length (parts_words ps))) Inexact ≡ verdict (judged x (split m x ds))
     unfolding judged checked exact_pieces exact_class none_left parts headed
     checks ps f =
         let n : length (op.parts_dwords ps) ≡ length ds - b = parts_left (makes_items m x.items (drop b ds)) f ∙ length-drop b ds in
@@ -114,7 +114,7 @@ module _ (x : Layout) (m : Bool) (ds : List ℕ) (t : ℕ) (h : 0 < length ds) (
     parts_off {r} f p q = go (sum_of m x.items (drop b ds)) refl (sym q ∙ p)
       where
         go : (a : Sum) → sum_of m x.items (drop b ds) ≡ a → BodyOff ≡ body_of a → r ≡ verdict (judged x (split m x ds))
-        go off z w = f ∙ items-lost z
+        go off z w = f ∙ items_lost z
         go (sum u v ex) z w = impossible (cc)
 
     told : {rows words : ℕ} {ex : Bool} {y : Body} → y ≡ body_of (sum_of m x.items (drop b ds)) → y ≡ BodyRead rows words ex → sum_of m x.items (drop b ds) ≡ sum rows words ex

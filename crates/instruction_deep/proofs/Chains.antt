@@ -16,7 +16,7 @@ use Rattle.format.proofs.Dwords.{impossible, both}
 use Rattle.format.proofs.Chains.{Rose, rose}
 use Rattle.instruction_fields.specs.declared.Place.TheVariants.{At, Off}
 use Rattle.instruction_deep.specs.Confirm.{linked}
-use Rattle.instruction_deep.specs.Walks.{Counts, are, none-are, Chained}
+use Rattle.instruction_deep.specs.Walks.{Counts, are, none_are, Chained}
 
 -- ---- types 1, 2, 3, each there or not
 data Third : List ℕ → Type 0 where
@@ -84,22 +84,22 @@ record Typed (n x y z : ℕ) : Type 0 where
   one_none : n % 2 ≡ 0 → x ≡ 0
   two_none : n / 2 % 2 ≡ 0 → y ≡ 0
   two_is : (n / 2 % 2 ≡ 0 → ⊥) → extension_type y ≡ 2
-  three-none : n / 4 ≡ 0 → z ≡ 0
-  three-is : (n / 4 ≡ 0 → ⊥) → extension_type z ≡ 3
+  three_none : n / 4 ≡ 0 → z ≡ 0
+  three_is : (n / 4 ≡ 0 → ⊥) → extension_type z ≡ 3
 
 abbrev TypedList : List ℕ → Type 0
 TypedList l = Typed (type_bits l) (of_type 1 l) (of_type 2 l) (of_type 3 l)
 
 typed : {l : List ℕ} → First l → TypedList l
 unfolding type_bits of_type
-typed (no_first (no_second no_third)) = record { few = omega arith; one_none = λ e. refl; two_none = λ e. refl; two_is = λ n. absurd (n refl); three-none = λ e. refl; three-is = λ n. absurd (n refl) }
-typed (no_first (no_second (third x))) = rw x (record { few = omega arith; one_none = λ e. refl; two_none = λ e. refl; two_is = λ n. absurd (n refl); three-none = λ e. impossible (omega arith); three-is = λ n. x })
-typed (no_first (second x no_third)) = rw x (record { few = omega arith; one_none = λ e. refl; two_none = λ e. impossible (omega arith); two_is = λ n. x; three-none = λ e. refl; three-is = λ n. absurd (n refl) })
-typed (no_first (second x (third y))) = rw (x, y) (record { few = omega arith; one_none = λ e. refl; two_none = λ e. impossible (omega arith); two_is = λ n. x; three-none = λ e. impossible (omega arith); three-is = λ n. y })
-typed (first x (no_second no_third)) = rw x (record { few = omega arith; one_none = λ e. impossible (omega arith); two_none = λ e. refl; two_is = λ n. absurd (n refl); three-none = λ e. refl; three-is = λ n. absurd (n refl) })
-typed (first x (no_second (third y))) = rw (x, y) (record { few = omega arith; one_none = λ e. impossible (omega arith); two_none = λ e. refl; two_is = λ n. absurd (n refl); three-none = λ e. impossible (omega arith); three-is = λ n. y })
-typed (first x (second y no_third)) = rw (x, y) (record { few = omega arith; one_none = λ e. impossible (omega arith); two_none = λ e. impossible (omega arith); two_is = λ n. y; three-none = λ e. refl; three-is = λ n. absurd (n refl) })
-typed (first x (second y (third z))) = rw (x, y, z) (record { few = omega arith; one_none = λ e. impossible (omega arith); two_none = λ e. impossible (omega arith); two_is = λ n. y; three-none = λ e. impossible (omega arith); three-is = λ n. z })
+typed (no_first (no_second no_third)) = record { few = omega arith; one_none = λ e. refl; two_none = λ e. refl; two_is = λ n. absurd (n refl); three_none = λ e. refl; three_is = λ n. absurd (n refl) }
+typed (no_first (no_second (third x))) = rw x (record { few = omega arith; one_none = λ e. refl; two_none = λ e. refl; two_is = λ n. absurd (n refl); three_none = λ e. impossible (omega arith); three_is = λ n. x })
+typed (no_first (second x no_third)) = rw x (record { few = omega arith; one_none = λ e. refl; two_none = λ e. impossible (omega arith); two_is = λ n. x; three_none = λ e. refl; three_is = λ n. absurd (n refl) })
+typed (no_first (second x (third y))) = rw (x, y) (record { few = omega arith; one_none = λ e. refl; two_none = λ e. impossible (omega arith); two_is = λ n. x; three_none = λ e. impossible (omega arith); three_is = λ n. y })
+typed (first x (no_second no_third)) = rw x (record { few = omega arith; one_none = λ e. impossible (omega arith); two_none = λ e. refl; two_is = λ n. absurd (n refl); three_none = λ e. refl; three_is = λ n. absurd (n refl) })
+typed (first x (no_second (third y))) = rw (x, y) (record { few = omega arith; one_none = λ e. impossible (omega arith); two_none = λ e. refl; two_is = λ n. absurd (n refl); three_none = λ e. impossible (omega arith); three_is = λ n. y })
+typed (first x (second y no_third)) = rw (x, y) (record { few = omega arith; one_none = λ e. impossible (omega arith); two_none = λ e. impossible (omega arith); two_is = λ n. y; three_none = λ e. refl; three_is = λ n. absurd (n refl) })
+typed (first x (second y (third z))) = rw (x, y, z) (record { few = omega arith; one_none = λ e. impossible (omega arith); two_none = λ e. impossible (omega arith); two_is = λ n. y; three_none = λ e. impossible (omega arith); three_is = λ n. z })
 
 -- ---- what a chain that is confirmed says of the row's words
 shown : (f : Bool) (l : List ℕ) → linked f l ≡ true → f ≡ ltb 0 (type_bits l)
@@ -113,11 +113,11 @@ module _ {f : Bool} {n u a b : ℕ} (c : Chained f n u a b) where
   types : Typed n (of_type 1 (chain_of n u a b)) (of_type 2 (chain_of n u a b)) (of_type 3 (chain_of n u a b))
   types = subst (λ (k : ℕ). Typed k (of_type 1 (chain_of n u a b)) (of_type 2 (chain_of n u a b)) (of_type 3 (chain_of n u a b))) (sym c.bits_are) (typed (above_0 (chain_of n u a b) c.risen))
 
-  chain-few : n < 8
-  chain-few = types.few
+  chain_few : n < 8
+  chain_few = types.few
 
-  chain-follows : f ≡ ltb 0 n
-  chain-follows = shown f (chain_of n u a b) c.taken ∙ ap (ltb 0) (sym c.bits_are)
+  chain_follows : f ≡ ltb 0 n
+  chain_follows = shown f (chain_of n u a b) c.taken ∙ ap (ltb 0) (sym c.bits_are)
 
   chain_first : ltb u (cond (eqb (n % 2) 0) 1 4096) ≡ true
   chain_first = go (ℕ_discrete (n % 2) 0)
@@ -128,21 +128,21 @@ module _ {f : Bool} {n u a b : ℕ} (c : Chained f n u a b) where
           rw (eq-eqb (n % 2) 0 e) (lt-ltb u 1 (omega (arith, z)))
       go (no k) = rw (ne_eqb (n % 2) 0 k) (lt-ltb u 4096 (let z = c.first_is in omega (arith, z)))
 
-  low-type : (x : ℕ) → extension_type (x % 2 ^ 31) ≡ extension_type x
-  low-type x = omega arith
+  low_type : (x : ℕ) → extension_type (x % 2 ^ 31) ≡ extension_type x
+  low_type x = omega arith
 
   other : (m k v y : ℕ) → v ≡ y % 2 ^ 31 → (m ≡ 0 → y ≡ 0) → ((m ≡ 0 → ⊥) → extension_type y ≡ k) → cond (eqb m 0) (eqb v 0) (ltb v 2147483648 && eqb (extension_type v) k) ≡ true
   other m k v y e p q = go (ℕ_discrete m 0)
     where
       go : Dec (m ≡ 0) → cond (eqb m 0) (eqb v 0) (ltb v 2147483648 && eqb (extension_type v) k) ≡ true
       go (yes z) = rw (eq-eqb m 0 z) (eq-eqb v 0 (e ∙ ap (λ (x : ℕ). x % 2 ^ 31) (p z)))
-      go (no z) = rw (ne_eqb m 0 z, lt-ltb v 2147483648 (omega (arith, e))) (eq-eqb (extension_type v) k (ap extension_type e ∙ low-type y ∙ q z))
+      go (no z) = rw (ne_eqb m 0 z, lt-ltb v 2147483648 (omega (arith, e))) (eq-eqb (extension_type v) k (ap extension_type e ∙ low_type y ∙ q z))
 
   chain_second : cond (eqb (n / 2 % 2) 0) (eqb a 0) (ltb a 2147483648 && eqb (extension_type a) 2) ≡ true
   chain_second = other (n / 2 % 2) 2 a _ c.second_is types.two_none types.two_is
 
-  chain-third : cond (eqb (n / 4) 0) (eqb b 0) (ltb b 2147483648 && eqb (extension_type b) 3) ≡ true
-  chain-third = other (n / 4) 3 b _ c.third_is types.three-none types.three-is
+  chain_third : cond (eqb (n / 4) 0) (eqb b 0) (ltb b 2147483648 && eqb (extension_type b) 3) ≡ true
+  chain_third = other (n / 4) 3 b _ c.third_is types.three_none types.three_is
 
 -- ---- a dword of a chain
 record Link (k : ℕ) (f : Bool) (x : ℕ) : Type 0 where
@@ -201,20 +201,20 @@ module _ (u a b : ℕ) where
   abbrev Fits : ℕ → Type 0
   Fits n = (ltb u (cond (eqb (n % 2) 0) 1 4096) ≡ true) × (cond (eqb (n / 2 % 2) 0) (eqb a 0) (ltb a 2147483648 && eqb (extension_type a) 2) ≡ true) × (cond (eqb (n / 4) 0) (eqb b 0) (ltb b 2147483648 && eqb (extension_type b) 3) ≡ true)
 
-  no-u : ltb u 1 ≡ true → u ≡ 0
-  no-u h = let z = ltb-true u 1 h in omega arith
+  no_u : ltb u 1 ≡ true → u ≡ 0
+  no_u h = let z = ltb-true u 1 h in omega arith
 
-  some-u : ltb u 4096 ≡ true → (f : Bool) → First_link u f
-  some-u h f = first_link u (ltb-true u 4096 h) f
+  some_u : ltb u 4096 ≡ true → (f : Bool) → First_link u f
+  some_u h f = first_link u (ltb-true u 4096 h) f
 
-  some-a : (ltb a 2147483648 && eqb (extension_type a) 2) ≡ true → (f : Bool) → Other_link 2 a f
-  some-a h f = let p = both _ _ h in other_link 2 a (ltb-true a 2147483648 p.0) (eqb-true _ 2 p.1) refl f
+  some_a : (ltb a 2147483648 && eqb (extension_type a) 2) ≡ true → (f : Bool) → Other_link 2 a f
+  some_a h f = let p = both _ _ h in other_link 2 a (ltb-true a 2147483648 p.0) (eqb-true _ 2 p.1) refl f
 
   abbrev Last : Type 0
   Last = (Link 3 false b) × (b ≡ b % 2 ^ 31)
 
-  some-b : (ltb b 2147483648 && eqb (extension_type b) 3) ≡ true → Last
-  some-b h =
+  some_b : (ltb b 2147483648 && eqb (extension_type b) 3) ≡ true → Last
+  some_b h =
       let p = both _ _ h in
       let l = other_link 3 b (ltb-true b 2147483648 p.0) (eqb-true _ 3 p.1) refl false in
       let z : b + 0 ≡ b = omega arith in
@@ -222,9 +222,9 @@ module _ (u a b : ℕ) where
 
   pub chain_fits : (n : ℕ) → n < 8 → Fits n → Chained (ltb 0 n) n u a b
   unfolding chain_of rising linked type_bits of_type
-  chain_fits zero h (x, y, z) = record { risen = refl; taken = refl; bits_are = refl; first_is = no-u x; second_is = eqb-true a 0 y; third_is = eqb-true b 0 z }
+  chain_fits zero h (x, y, z) = record { risen = refl; taken = refl; bits_are = refl; first_is = no_u x; second_is = eqb-true a 0 y; third_is = eqb-true b 0 z }
   chain_fits (suc zero) h (x, y, z) =
-      let lu = some-u x false in
+      let lu = some_u x false in
       record {
         risen = rw (lu.link.type, lu.link.exact);
         taken = rw lu.link.next;
@@ -234,18 +234,18 @@ module _ (u a b : ℕ) where
         third_is = rw lu.link.type (eqb-true b 0 z);
       }
   chain_fits (suc (suc zero)) h (x, y, z) =
-      let la = some-a y false in
+      let la = some_a y false in
       record {
         risen = rw (la.link.type, la.link.exact);
         taken = rw la.link.next;
         bits_are = rw la.link.type;
-        first_is = rw la.link.type (no-u x);
+        first_is = rw la.link.type (no_u x);
         second_is = rw la.link.type la.value;
         third_is = rw la.link.type (eqb-true b 0 z);
       }
   chain_fits (suc (suc (suc zero))) h (x, y, z) =
-      let lu = some-u x true in
-      let la = some-a y false in
+      let lu = some_u x true in
+      let la = some_a y false in
       record {
         risen = rw (lu.link.type, lu.link.exact, la.link.type, la.link.exact);
         taken = rw (lu.link.next, la.link.next);
@@ -255,18 +255,18 @@ module _ (u a b : ℕ) where
         third_is = rw (lu.link.type, la.link.type) (eqb-true b 0 z);
       }
   chain_fits (suc (suc (suc (suc zero)))) h (x, y, z) =
-      let lb = some-b z in
+      let lb = some_b z in
       record {
         risen = rw (lb.0.type, lb.0.exact);
         taken = rw lb.0.next;
         bits_are = rw lb.0.type;
-        first_is = rw lb.0.type (no-u x);
+        first_is = rw lb.0.type (no_u x);
         second_is = rw lb.0.type (eqb-true a 0 y);
         third_is = rw lb.0.type lb.1;
       }
   chain_fits (suc (suc (suc (suc (suc zero))))) h (x, y, z) =
-      let lu = some-u x true in
-      let lb = some-b z in
+      let lu = some_u x true in
+      let lb = some_b z in
       record {
         risen = rw (lu.link.type, lu.link.exact, lb.0.type, lb.0.exact);
         taken = rw (lu.link.next, lb.0.next);
@@ -276,20 +276,20 @@ module _ (u a b : ℕ) where
         third_is = rw (lu.link.type, lb.0.type) lb.1;
       }
   chain_fits (suc (suc (suc (suc (suc (suc zero)))))) h (x, y, z) =
-      let la = some-a y true in
-      let lb = some-b z in
+      let la = some_a y true in
+      let lb = some_b z in
       record {
         risen = rw (la.link.type, la.link.exact, lb.0.type, lb.0.exact);
         taken = rw (la.link.next, lb.0.next);
         bits_are = rw (la.link.type, lb.0.type);
-        first_is = rw (la.link.type, lb.0.type) (no-u x);
+        first_is = rw (la.link.type, lb.0.type) (no_u x);
         second_is = rw la.link.type la.value;
         third_is = rw (la.link.type, lb.0.type) lb.1;
       }
   chain_fits (suc (suc (suc (suc (suc (suc (suc zero))))))) h (x, y, z) =
-      let lu = some-u x true in
-      let la = some-a y true in
-      let lb = some-b z in
+      let lu = some_u x true in
+      let la = some_a y true in
+      let lb = some_b z in
       record {
         risen = rw (lu.link.type, lu.link.exact, la.link.type, la.link.exact, lb.0.type, lb.0.exact);
         taken = rw (lu.link.next, la.link.next, lb.0.next);
@@ -330,14 +330,14 @@ module _ (bit n u a b : ℕ) where
   Answers = Chained (eqb bit 1) n u a b
 
   pub other_bit : bit < 2 → (x : ℕ) → x ≡ cond (ltb 0 n) 1 0 → (bit ≡ x → ⊥) → Counts Answers (length (chain_of n u a b)) Off
-  other_bit h x e k = none-are (λ c. k (go (ltb 0 n) (chain-follows c) e))
+  other_bit h x e k = none_are (λ c. k (go (ltb 0 n) (chain_follows c) e))
     where
       go : (f : Bool) → eqb bit 1 ≡ f → x ≡ cond f 1 0 → bit ≡ x
       go true p q = eqb-true bit 1 p ∙ sym q
       go false p q = let z = eqb-false bit 1 p in omega (arith, h, q, z)
 
   pub too_many : 8 ≤ n → Counts Answers (length (chain_of n u a b)) Off
-  too_many h = none-are (λ c. let z = chain-few c in absurd (let f : ⊥ = omega arith in f))
+  too_many h = none_are (λ c. let z = chain_few c in absurd (let f : ⊥ = omega arith in f))
 
   unequal : (x y : Bool) → x ≡ y → not x ≡ true → y ≡ true → ⊥
   unequal true y e h k = impossible (cc)
@@ -345,15 +345,15 @@ module _ (bit n u a b : ℕ) where
 
   module _ (p : Bool) (ep : p ≡ ltb u (cond (eqb (n % 2) 0) 1 4096)) where
     pub not_first : not p ≡ true → Counts Answers (length (chain_of n u a b)) Off
-    not_first h = none-are (λ c. unequal p _ ep h (chain_first c))
+    not_first h = none_are (λ c. unequal p _ ep h (chain_first c))
 
     module _ (q : Bool) (eq : q ≡ cond (eqb (n / 2 % 2) 0) (eqb a 0) (ltb a 2147483648 && eqb (extension_type a) 2)) where
       pub not_second : not q ≡ true → Counts Answers (length (chain_of n u a b)) Off
-      not_second h = none-are (λ c. unequal q _ eq h (chain_second c))
+      not_second h = none_are (λ c. unequal q _ eq h (chain_second c))
 
       module _ (r : Bool) (er : r ≡ cond (eqb (n / 4) 0) (eqb b 0) (ltb b 2147483648 && eqb (extension_type b) 3)) where
         pub not_third : not r ≡ true → Counts Answers (length (chain_of n u a b)) Off
-        not_third h = none-are (λ c. unequal r _ er h (chain-third c))
+        not_third h = none_are (λ c. unequal r _ er h (chain_third c))
 
         pub all_fit : (x : ℕ) → x ≡ cond (ltb 0 n) 1 0 → bit ≡ x → n < 8 → not p ≡ false → not q ≡ false → not r ≡ false → (k : ℕ) → k ≡ n % 2 + n / 2 % 2 + n / 4 → Counts Answers (length (chain_of n u a b)) (At k)
         all_fit x ex eb h hp hq hr k ek =

@@ -14,7 +14,7 @@ use Rattle.format.specs.Framing.{code, code_of, sized, long, length_of}
 use Rattle.format.specs.Declarations.{Item, o, d, small, s, tail, list, Layout, layout, chained}
 use Rattle.format.specs.Operands as op
 use Rattle.format.specs.Operands.{Tree, none, plain}
-use Rattle.format.specs.Instructions.{Instruction, unread, pieces, ok, readItem, readItems, split, exact_class, exact_pieces, checked, judged, read, dwords}
+use Rattle.format.specs.Instructions.{Instruction, unread, pieces, ok, read_item, read_items, split, exact_class, exact_pieces, checked, judged, read, dwords}
 use Rattle.format.specs.Rows.{tree_words, tree_rows, tree_table, parts_words, parts_table, parts, unread_row, instruction_row}
 use Rattle.format.proofs.Dwords.{impossible, both, All, unmet, met, all_then, all_if, all_weaken, all_both, makes_dword, some_length, none_left_lem, Linked, end, link}
 use Rattle.format.proofs.Instructions.{Kept, kept, kept14, kept_if, kept_fault, kept_ok, makes_items, makes_split}
@@ -26,7 +26,7 @@ use Rattle.instruction_fields.specs.Fields.{headed}
 use Rattle.operand_deep.specs.Confirm.{Confirmer}
 use Rattle.format.proofs.Encoder.{same_refl}
 use Rattle.operand_deep.proofs.Complete as operand
-use Rattle.instruction_deep.specs.Confirm.{confirm_words, confirmItem, confirmItems, linked, head_taken, confirm_pieces, confirm_known, confirm_unread, confirm_instruction}
+use Rattle.instruction_deep.specs.Confirm.{confirm_words, confirm_item, confirm_items, linked, head_taken, confirm_pieces, confirm_known, confirm_unread, confirm_instruction}
 
 -- ---- parts, from words that are theirs alone: where no dword was left, no word is
 abbrev ItemWhole : Confirmer → Tree → List ℕ → Type 0
@@ -43,8 +43,8 @@ all_of : {A : Type 0} {P : A → List ℕ → Type 0} (g : Got A) → ((a : A) (
 all_of malformed f = unmet
 all_of (got a r) f = met (f a r refl)
 
-item_whole : (m : Bool) (i : Item) (ds : List ℕ) → All (λ x left. ItemWhole (confirmItem m i) x left) (readItem m i ds)
-unfolding readItem confirmItem tree_table tree_words
+item_whole : (m : Bool) (i : Item) (ds : List ℕ) → All (λ x left. ItemWhole (confirm_item m i) x left) (read_item m i ds)
+unfolding read_item confirm_item tree_table tree_words
 item_whole m o ds = all_of (op.operand 64 ds) (λ x left f h r w R W z. operand.complete 64 ds x left f h r w R W)
 item_whole m d ds = all_then (some_length 1 ds) (λ x left l. met (λ h r w R W z. words_whole 1 true x R W r w l.1 refl))
 item_whole m small ds = all_then (makes_dword ds) (λ x left u. all_if (ltb x 65_536) _ _ left (λ y. met (λ h r w R W z. words_whole 1 (ltb x 65_536) (x ∷ []) R W r w refl y)) (λ y. unmet))
@@ -53,14 +53,14 @@ item_whole m tail ds = met (λ h r w R W z. words_whole _ true ds R W r w (tail_
 item_whole m (list b) ds = all_then (makes_dword ds) (λ n left₁ u. all_then (some_length (n % 2 ^ b) left₁) (λ x left l. met (λ h r w R W z. words_whole (1 + n % 2 ^ b) true (n ∷ x) R W r w (omega (arith, l.1)) refl)))
 
 abbrev PartsWhole : Bool → List Item → List Tree → Type 0
-PartsWhole m l ps = op.exact_parts ps ≡ true → (r w : ℕ) (R : List ℕ) → confirmItems m l (parts_table r w ps ++ R) (parts_words ps) r w ≡ just ps
+PartsWhole m l ps = op.exact_parts ps ≡ true → (r w : ℕ) (R : List ℕ) → confirm_items m l (parts_table r w ps ++ R) (parts_words ps) r w ≡ just ps
 
 no_items : (m : Bool) → PartsWhole m [] []
-unfolding confirmItems
+unfolding confirm_items
 no_items m h r w R = refl
 
-parts_step : (m : Bool) (i : Item) (l : List Item) (x : Tree) (ps : List Tree) (left left₁ : List ℕ) → ItemWhole (confirmItem m i) x left → PartsWhole m l ps → op.parts_dwords ps ++ left₁ ≡ left → PartsWhole m (i ∷ l) (x ∷ ps)
-unfolding confirmItems parts_table parts_words op.exact_parts
+parts_step : (m : Bool) (i : Item) (l : List Item) (x : Tree) (ps : List Tree) (left left₁ : List ℕ) → ItemWhole (confirm_item m i) x left → PartsWhole m l ps → op.parts_dwords ps ++ left₁ ≡ left → PartsWhole m (i ∷ l) (x ∷ ps)
+unfolding confirm_items parts_table parts_words op.exact_parts
 parts_step m i l x ps left left₁ f g e h r w R =
     let b = both (op.exact x) (op.exact_parts ps) h in
     let r₁ : ℕ = r + tree_rows x in
@@ -73,8 +73,8 @@ parts_step m i l x ps left left₁ f g e h r w R =
       g b.1 r₁ w₁ R,
     )
 
-items_whole : (m : Bool) (l : List Item) (ds : List ℕ) → All (λ ps r. PartsWhole m l ps) (readItems m l ds)
-unfolding readItems
+items_whole : (m : Bool) (l : List Item) (ds : List ℕ) → All (λ ps r. PartsWhole m l ps) (read_items m l ds)
+unfolding read_items
 items_whole m [] ds = met (no_items m)
 items_whole m (i ∷ l) ds =
     all_then (item_whole m i ds) (λ x left f. all_then (all_both (items_whole m l left) (makes_items m l left)) (λ ps left₁ g. met (parts_step m i l x ps left left₁ f g.0 g.1)))
@@ -114,9 +114,9 @@ module _ (c : ℕ) (m : Bool) where
   abbrev Whole : Instruction → Type 0
   Whole j = (place r w : ℕ) (R : List ℕ) → confirm_instruction c m (instruction_row place r w j) place (parts_table r w (parts j) ++ R) (parts_words (parts j)) r w ≡ just j
 
-  unread-whole : (t : ℕ) (i : List ℕ) → length (t ∷ i) ≡ length_of t i → ltb (code t) c ≡ false → Whole (unread (t ∷ i))
+  unread_whole : (t : ℕ) (i : List ℕ) → length (t ∷ i) ≡ length_of t i → ltb (code t) c ≡ false → Whole (unread (t ∷ i))
   unfolding confirm_instruction confirm_unread instruction_row unread_row code_of parts parts_table parts_words tree_table tree_words
-  unread-whole t i n k place r w R =
+  unread_whole t i n k place r w R =
       rw (append-nil, append-nil i, k, lt-ltb 0 (length (t ∷ i)) (omega arith), eq-eqb (length_of t i) (length (t ∷ i)) (sym n), same_refl _)
 
   pieces_whole : (t : ℕ) (e : List ℕ) (ps : List Tree) → ltb (code t) c ≡ true → Head (layout (code t)) t e → PartsWhole m (layout (code t)).items ps →
@@ -142,28 +142,28 @@ module _ (c : ℕ) (m : Bool) where
   data Split (t : ℕ) : Instruction → Type 0 where
     parted : {e : List ℕ} {ps : List Tree} → Head (layout (code t)) t e → PartsWhole m (layout (code t)).items ps → Split t (pieces t e ps)
 
-  split-whole : (t : ℕ) (i : List ℕ) → All (λ j r. Split t j) (split m (layout (code t)) (t ∷ i))
+  split_whole : (t : ℕ) (i : List ℕ) → All (λ j r. Split t j) (split m (layout (code t)) (t ∷ i))
   unfolding split dword
-  split-whole t i =
+  split_whole t i =
       all_then (head_fact (layout (code t)) t i) (λ e ds₁ f.
       all_then (items_whole m (layout (code t)).items ds₁) (λ ps ds₂ g.
       all_weaken (λ j r z. subst (Split t) (sym z.0) (parted f g)) (none_left_lem (pieces t e ps) ds₂)))
 
-  checked-whole : (t : ℕ) (i : List ℕ) {j : Instruction} → length (t ∷ i) ≡ length_of t i → ltb (code t) c ≡ true → Split t j → dwords j ≡ t ∷ i → Kept Whole (checked (layout (code t)) j)
+  checked_whole : (t : ℕ) (i : List ℕ) {j : Instruction} → length (t ∷ i) ≡ length_of t i → ltb (code t) c ≡ true → Split t j → dwords j ≡ t ∷ i → Kept Whole (checked (layout (code t)) j)
   unfolding checked dwords
-  checked-whole t i n u (parted {e = e} {ps = ps} h f) z =
+  checked_whole t i n u (parted {e = e} {ps = ps} h f) z =
       let z₁ : e ++ op.parts_dwords ps ≡ i = cc in
       kept_if (exact_pieces (layout (code t)) t e ps) _ _ (λ k. kept (pieces_whole t e ps u h f (ap length z ∙ n ∙ ap (length_of t) (sym z₁)) k)) (λ k. kept14)
 
-  judged-whole : (t : ℕ) (i : List ℕ) {g : Got Instruction} → length (t ∷ i) ≡ length_of t i → ltb (code t) c ≡ true → All (λ j r. Split t j × (dwords j ≡ t ∷ i)) g → Kept Whole (judged (layout (code t)) g)
+  judged_whole : (t : ℕ) (i : List ℕ) {g : Got Instruction} → length (t ∷ i) ≡ length_of t i → ltb (code t) c ≡ true → All (λ j r. Split t j × (dwords j ≡ t ∷ i)) g → Kept Whole (judged (layout (code t)) g)
   unfolding judged
-  judged-whole t i n u unmet = kept_fault (layout (code t))
-  judged-whole t i n u (met p) = checked-whole t i n u p.0 p.1
+  judged_whole t i n u unmet = kept_fault (layout (code t))
+  judged_whole t i n u (met p) = checked_whole t i n u p.0 p.1
 
   read_whole : (t : ℕ) (i : List ℕ) → length (t ∷ i) ≡ length_of t i → Kept Whole (read c m (t ∷ i))
   unfolding read code_of
   read_whole t i n =
-      kept_if (ltb (code t) c) _ _ (λ k. judged-whole t i n k (all_both (split-whole t i) (makes_split m (layout (code t)) (t ∷ i)))) (λ k. kept (unread-whole t i n k))
+      kept_if (ltb (code t) c) _ _ (λ k. judged_whole t i n k (all_both (split_whole t i) (makes_split m (layout (code t)) (t ∷ i)))) (λ k. kept (unread_whole t i n k))
 
   pub complete : (t : ℕ) (i : List ℕ) (j : Instruction) → length (t ∷ i) ≡ length_of t i → read c m (t ∷ i) ≡ ok j →
       (place r w : ℕ) (R : List ℕ) → confirm_instruction c m (instruction_row place r w j) place (parts_table r w (parts j) ++ R) (parts_words (parts j)) r w ≡ just j

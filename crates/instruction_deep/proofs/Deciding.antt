@@ -16,7 +16,7 @@ use Rattle.format.specs.Encoder.{at}
 use Rattle.operand_deep.proofs.Fields.{row_at}
 use Rattle.instruction_fields.specs.declared.Place.{Place}
 use Rattle.instruction_fields.specs.declared.Place.TheVariants.{At}
-use Rattle.instruction_deep.specs.Walks.{row_from, Decides, holds, fails, Counts, are, none-are, Unchained, Fielded, Sized, Placed}
+use Rattle.instruction_deep.specs.Walks.{row_from, Decides, holds, fails, Counts, are, none_are, Unchained, Fielded, Sized, Placed}
 
 pub granted : {P : Type 0} {b : Bool} → Decides P b → b ≡ true → P
 granted (holds p) e = p
@@ -34,7 +34,7 @@ pub record Told (P : Type 0) (n k : ℕ) : Type 0 where
 
 pub told : {P : Type 0} {n k : ℕ} {p : Place} → Counts P n p → p ≡ At k → Told P n k
 told {n = n} {k = k} (are h a) e = let z : n ≡ k = (cc) in record { few = rw z at h; size = z; is = a }
-told (none-are f) e = impossible (cc)
+told (none_are f) e = impossible (cc)
 
 -- an equation decides, where it alone is left
 pub last_equal : {P : Type 0} (a b : ℕ) → (a ≡ b → P) → (P → a ≡ b) → Decides P (eqb a b)

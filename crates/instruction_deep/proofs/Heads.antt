@@ -20,7 +20,7 @@ use Rattle.operand_deep.proofs.Fields.{row_at}
 use Rattle.instruction_fields.specs.declared.Place.{Place}
 use Rattle.instruction_fields.specs.declared.Place.TheVariants.{At, Off}
 use Rattle.instruction_deep.specs.Confirm.{linked, head_taken}
-use Rattle.instruction_deep.specs.Walks.{row_from, Decides, Counts, are, none-are, Unchained, Chained, Headed}
+use Rattle.instruction_deep.specs.Walks.{row_from, Decides, Counts, are, none_are, Unchained, Chained, Headed}
 use Rattle.instruction_deep.proofs.Deciding.{granted, refused}
 
 -- ---- codes whose length may be in the next dword have no chain
@@ -84,17 +84,17 @@ module _ (q : List ℕ) (t : ℕ) (ec : at 2 q ≡ code t) where
       go false b e = e
 
   -- ---- no chain: what the row tells is what stands there
-  unchained-of : chained x ≡ false → Head → Unchained q (cond (long t) 8 0)
+  unchained_of : chained x ≡ false → Head → Unchained q (cond (long t) 8 0)
   unfolding extensions type_bits of_type
-  unchained-of z h = record { bits_are = (rw z at h.bits_are) ∙ none (long t); no_first = rw z at h.first_is; no_second = rw z at h.second_is; no_third = rw z at h.third_is }
+  unchained_of z h = record { bits_are = (rw z at h.bits_are) ∙ none (long t); no_first = rw z at h.first_is; no_second = rw z at h.second_is; no_third = rw z at h.third_is }
     where
       none : (b : Bool) → 0 + cond b 8 0 ≡ cond b 8 0
       none true = refl
       none false = refl
 
-  headed-of : chained x ≡ false → Unchained q (cond (long t) 8 0) → head_taken x t (head_of_row q) ≡ true → Head
+  headed_of : chained x ≡ false → Unchained q (cond (long t) 8 0) → head_taken x t (head_of_row q) ≡ true → Head
   unfolding extensions type_bits of_type rising
-  headed-of z u k = record { risen = rw z; taken = k; bits_are = rw z (u.bits_are ∙ none (long t)); first_is = rw z u.no_first; second_is = rw z u.no_second; third_is = rw z u.no_third }
+  headed_of z u k = record { risen = rw z; taken = k; bits_are = rw z (u.bits_are ∙ none (long t)); first_is = rw z u.no_first; second_is = rw z u.no_second; third_is = rw z u.no_third }
     where
       none : (b : Bool) → cond b 8 0 ≡ 0 + cond b 8 0
       none true = refl
@@ -107,11 +107,11 @@ module _ (q : List ℕ) (t : ℕ) (ec : at 2 q ≡ code t) where
     one_dword_lem u = rw (sized_row_lem z u)
 
     pub sized_dword : Head → head_of_row q ≡ at 1 q ∷ []
-    sized_dword h = one_dword_lem (unchained-of (sized_chainless t z) h)
+    sized_dword h = one_dword_lem (unchained_of (sized_chainless t z) h)
 
-    sized-head : Unchained q (cond (long t) 8 0) → Head
+    sized_head : Unchained q (cond (long t) 8 0) → Head
     unfolding head_taken
-    sized-head u = headed-of (sized_chainless t z) u (rw (z, one_dword_lem u))
+    sized_head u = headed_of (sized_chainless t z) u (rw (z, one_dword_lem u))
 
   -- nothing
   module _ (z : sized t ≡ false) (k : chained x ≡ false) where
@@ -124,10 +124,10 @@ module _ (q : List ℕ) (t : ℕ) (ec : at 2 q ≡ code t) where
 
     pub bare_head : Unchained q 0 → Head
     unfolding head_taken linked
-    bare_head u = headed-of k (at_none u) (rw (z, k, no_dword u))
+    bare_head u = headed_of k (at_none u) (rw (z, k, no_dword u))
 
-    head-bare : Head → Unchained q 0
-    head-bare h = rw (short z) at (unchained-of k h)
+    head_bare : Head → Unchained q 0
+    head_bare h = rw (short z) at (unchained_of k h)
 
   -- a chain
   module _ (z : sized t ≡ false) (k : chained x ≡ true) where
@@ -151,7 +151,7 @@ module _ (q : List ℕ) (t : ℕ) (ec : at 2 q ≡ code t) where
 -- ---- the code's ways
 counts_as : {P Q : Type 0} {n m : ℕ} {p : Place} → (P → Q) → (Q → P) → n ≡ m → Counts P n p → Counts Q m p
 counts_as {P} {Q} {n} f g e (are h a) = subst (λ (k : ℕ). Counts Q k (At n)) e (are h (f a))
-counts_as f g e (none-are n) = none-are (λ b. n (g b))
+counts_as f g e (none_are n) = none_are (λ b. n (g b))
 
 module _ (l : List ℕ) (o t : ℕ) (ec : at 2 (row_from o l) ≡ code t) (b : Bool) (eb : b ≡ sized t) where
   abbrev q₁ : List ℕ
@@ -165,10 +165,10 @@ module _ (l : List ℕ) (o t : ℕ) (ec : at 2 (row_from o l) ≡ code t) (b : B
     by_length k =
         let a = subst (Unchained q₁) en (granted d k) in
         let e : 1 ≡ length (head_of_row q₁) = sym (ap length (one_dword_lem q₁ t ec (sym eb ∙ h) a)) in
-        subst (λ (j : ℕ). Counts (Headed q₁ (layout (code t)) t (head_of_row q₁)) j (At 1)) e (are (omega arith) (sized-head q₁ t ec (sym eb ∙ h) a))
+        subst (λ (j : ℕ). Counts (Headed q₁ (layout (code t)) t (head_of_row q₁)) j (At 1)) e (are (omega arith) (sized_head q₁ t ec (sym eb ∙ h) a))
 
     pub not_by_length : u ≡ false → Answers Off
-    not_by_length k = none-are (λ a. refused d k (subst (Unchained q₁) (sym en) (unchained-of q₁ t ec (sized_chainless t (sym eb ∙ h)) a)))
+    not_by_length k = none_are (λ a. refused d k (subst (Unchained q₁) (sym en) (unchained_of q₁ t ec (sized_chainless t (sym eb ∙ h)) a)))
 
   module _ (h : b ≡ false) (kind : ℕ) (ek : kind ≡ (layout (code t)).kind) where
     pub by_chain : kind < 3 → {p : Place} → Counts (Chained (eqb (bits 31 31 t) 1) (get_or l (o + 8) 0) (get_or l (o + 9) 0) (get_or l (o + 10) 0) (get_or l (o + 11) 0)) (length (chain_of (get_or l (o + 8) 0) (get_or l (o + 9) 0) (get_or l (o + 10) 0) (get_or l (o + 11) 0))) p → Answers p
@@ -190,4 +190,4 @@ module _ (l : List ℕ) (o t : ℕ) (ec : at 2 (row_from o l) ≡ code t) (b : B
           subst (λ (j : ℕ). Counts (Headed q₁ (layout (code t)) t (head_of_row q₁)) j (At 0)) e (are (omega arith) (bare_head q₁ t ec (sym eb ∙ h) plain a))
 
       pub not_by_none : u ≡ false → Answers Off
-      not_by_none g = none-are (λ a. refused d g (head-bare q₁ t ec (sym eb ∙ h) plain a))
+      not_by_none g = none_are (λ a. refused d g (head_bare q₁ t ec (sym eb ∙ h) plain a))

@@ -12,7 +12,7 @@ use Rattle.format.specs.Operands as op
 use Rattle.format.specs.Operands.{Tree, none, plain, node}
 use Rattle.format.specs.Declarations.{Item, o}
 use Rattle.format.specs.Rows.{tree_rows, tree_words, parts_rows, parts_words, top_level}
-use Rattle.instruction_deep.specs.Confirm.{confirmItem, confirmItems}
+use Rattle.instruction_deep.specs.Confirm.{confirm_item, confirm_items}
 use Rattle.operand_deep.specs.Confirm.{◌>>=◌}
 use Rattle.instruction_deep.specs.Walks.{Sum, off, sum, add, total, sum_at, Takes, takes, lacks, PassesIn, Runs}
 use Rattle.instruction_deep.specs.declared.Parts.{Parts}
@@ -50,23 +50,23 @@ cons_total x ps = λ i. sum (tree_rows x + parts_rows ps) (length-append (tree_w
 
 -- the places behind a part
 module _ (m : Bool) (i : Item) (l : List Item) (rs ws : List ℕ) (r w : ℕ) where
-  pub item_step : (x : Tree) → confirmItem m i (drop (16 * r) rs) (drop w ws) r w ≡ just x →
+  pub item_step : (x : Tree) → confirm_item m i (drop (16 * r) rs) (drop w ws) r w ≡ just x →
       sum_at m (i ∷ l) rs ws r w ≡ add (tree_rows x) (length (tree_words x)) (length (op.dwords x)) (top_level (x ∷ [])) (sum_at m l rs ws (r + tree_rows x) (w + length (tree_words x)))
-  unfolding sum_at confirmItems
+  unfolding sum_at confirm_items
   item_step x e =
       let z : 16 * r + 16 * tree_rows x ≡ 16 * (r + tree_rows x) = omega arith in
-      rw (e, drop-drop (16 * tree_rows x) (16 * r) rs, drop-drop (length (tree_words x)) w ws, z) (go (confirmItems m l _ _ _ _))
+      rw (e, drop-drop (16 * tree_rows x) (16 * r) rs, drop-drop (length (tree_words x)) w ws, z) (go (confirm_items m l _ _ _ _))
     where
       go : (g : Option (List Tree)) → total (◌>>=◌ g (λ ps. just (x ∷ ps))) ≡ add (tree_rows x) (length (tree_words x)) (length (op.dwords x)) (top_level (x ∷ [])) (total g)
       go nothing = refl
       go (just ps) = cons_total x ps
 
-  pub item_off : confirmItem m i (drop (16 * r) rs) (drop w ws) r w ≡ nothing → sum_at m (i ∷ l) rs ws r w ≡ off
-  unfolding sum_at confirmItems
+  pub item_off : confirm_item m i (drop (16 * r) rs) (drop w ws) r w ≡ nothing → sum_at m (i ∷ l) rs ws r w ≡ off
+  unfolding sum_at confirm_items
   item_off e = rw e
 
   -- words as they are
-  plain_step : (n : ℕ) → n ≤ length ws - w → confirmItem m i (drop (16 * r) rs) (drop w ws) r w ≡ just (plain (take n (drop w ws)) none) → sum_at m (i ∷ l) rs ws r w ≡ add 0 n n 0 (sum_at m l rs ws r (w + n))
+  plain_step : (n : ℕ) → n ≤ length ws - w → confirm_item m i (drop (16 * r) rs) (drop w ws) r w ≡ just (plain (take n (drop w ws)) none) → sum_at m (i ∷ l) rs ws r w ≡ add 0 n n 0 (sum_at m l rs ws r (w + n))
   unfolding tree_rows tree_words op.dwords top_level
   plain_step n h e =
       let k : length (take n (drop w ws) ++ []) ≡ n = ap length (append-nil (take n (drop w ws))) ∙ length-take-le n (drop w ws) (omega (arith, length-drop w ws)) in
@@ -130,13 +130,13 @@ all_few b = omega (arith, b.rows_from, b.rows_to, b.words_from, b.words_to, b.fe
 
 -- an item of n words
 module _ {m : Bool} {i : Item} {ws : List ℕ} {w : ℕ} where
-  pub passes_item : (n : ℕ) → w ≤ length ws → n ≤ length ws - w → ((rs : List ℕ) (r : ℕ) → confirmItem m i rs (drop w ws) r w ≡ just (plain (take n (drop w ws)) none)) → PassesIn m (i ∷ []) ws w (At (w + n))
+  pub passes_item : (n : ℕ) → w ≤ length ws → n ≤ length ws - w → ((rs : List ℕ) (r : ℕ) → confirm_item m i rs (drop w ws) r w ≡ just (plain (take n (drop w ws)) none)) → PassesIn m (i ∷ []) ws w (At (w + n))
   passes_item n h k f rs r = takes {r₁ = r} {w₁ = w + n} {n = w + n - w} (omega arith) (omega arith) (omega arith) (omega arith) (omega arith) (λ l.
       let z₁ : 0 ≡ r - r = omega arith in
       let z₂ : n ≡ w + n - w = omega arith in
       plain_step m i l rs ws r w n k (f (drop (16 * r) rs) r) ∙ (λ j. add (z₁ j) (z₂ j) (z₂ j) 0 (sum_at m l rs ws r (w + n))))
 
-  pub blocks_item : ((rs : List ℕ) (r : ℕ) → confirmItem m i rs (drop w ws) r w ≡ nothing) → PassesIn m (i ∷ []) ws w Off
+  pub blocks_item : ((rs : List ℕ) (r : ℕ) → confirm_item m i rs (drop w ws) r w ≡ nothing) → PassesIn m (i ∷ []) ws w Off
   blocks_item f rs r = lacks (λ l. item_off m i l rs ws r w (f (drop (16 * r) rs) r))
 
 -- one after the other

@@ -19,27 +19,27 @@ use Rattle.format.proofs.Dwords.{both}
 
 -- ---- a test of a layout's field and items
 module _ (p : Field → List Item → Bool) where
-  unfoldable rowsPass : List (List ℕ × Field × List Item) → Bool
-  rowsPass [] = true
-  rowsPass (row ∷ rows) = p row.1 row.2 && rowsPass rows
+  unfoldable rows_pass : List (List ℕ × Field × List Item) → Bool
+  rows_pass [] = true
+  rows_pass (row ∷ rows) = p row.1 row.2 && rows_pass rows
 
   abbrev Passes : Layout → Type 0
   Passes x = p x.field x.items ≡ true
 
-  in-table : (l : List (List ℕ × Field × List Item)) (c : ℕ) (x : Layout) → rowsPass l ≡ true → Passes x → Passes (in_table l c x)
-  unfolding in_table rowsPass
-  in-table [] c x t h = h
-  in-table (row ∷ l) c x t h =
-      let b = both (p row.1 row.2) (rowsPass l) t in
-      go (within c row.0) b.0 (in-table l c x b.1 h)
+  in_table_lem : (l : List (List ℕ × Field × List Item)) (c : ℕ) (x : Layout) → rows_pass l ≡ true → Passes x → Passes (in_table l c x)
+  unfolding in_table rows_pass
+  in_table_lem [] c x t h = h
+  in_table_lem (row ∷ l) c x t h =
+      let b = both (p row.1 row.2) (rows_pass l) t in
+      go (within c row.0) b.0 (in_table_lem l c x b.1 h)
     where
       go : (b : Bool) → p row.1 row.2 ≡ true → Passes (in_table l c x) → Passes (cond b (record { kind = 4; field = row.1; items = row.2 }) (in_table l c x))
       go true k h = k
       go false k h = h
 
-  every-layout : rowsPass declarations ≡ true → p no [] ≡ true → p (from 11 15) (tail ∷ []) ≡ true → ((c : ℕ) (n : Option ℕ) → Passes (by_count c n)) → (c : ℕ) → Passes (layout c)
+  every_layout : rows_pass declarations ≡ true → p no [] ≡ true → p (from 11 15) (tail ∷ []) ≡ true → ((c : ℕ) (n : Option ℕ) → Passes (by_count c n)) → (c : ℕ) → Passes (layout c)
   unfolding layout
-  every-layout t p₃ p₅ counted c = go (within c (numbers 4 113)) (eqb c 53)
+  every_layout t p₃ p₅ counted c = go (within c (numbers 4 113)) (eqb c 53)
     where
       tabled : Layout
       tabled = in_table declarations c (by_count c (operand_count c))
@@ -47,7 +47,7 @@ module _ (p : Field → List Item → Bool) where
       go : (a b : Bool) → Passes (cond a (record { kind = 3; field = no; items = [] }) (cond b (record { kind = 5; field = from 11 15; items = tail ∷ [] }) tabled))
       go true b = p₃
       go false true = p₅
-      go false false = in-table declarations c (by_count c (operand_count c)) t (counted c (operand_count c))
+      go false false = in_table_lem declarations c (by_count c (operand_count c)) t (counted c (operand_count c))
 
 -- ---- nothing stands behind a tail
 unfoldable pub tail_last : List Item → Bool
@@ -65,8 +65,8 @@ counted_tail zero = refl
 counted_tail (suc n) = counted_tail n
 
 pub tail_last_lem : (c : ℕ) → tail_last (layout c).items ≡ true
-unfolding tail_last rowsPass
-tail_last_lem c = every-layout (λ f l. tail_last l) refl refl refl counted c
+unfolding tail_last rows_pass
+tail_last_lem c = every_layout (λ f l. tail_last l) refl refl refl counted c
   where
     counted : (c : ℕ) (n : Option ℕ) → tail_last (by_count c n).items ≡ true
     counted c nothing = unfold tail_last in refl
@@ -79,8 +79,8 @@ narrow (from a b) = leb (2 ^ (b + 1 - a) * 2 ^ (a - 11)) (2 ^ 13)
 narrow (bounded b k lo hi) = leb (2 ^ (b + 1 - 11)) (2 ^ 13)
 
 narrow_layout : (c : ℕ) → narrow (layout c).field ≡ true
-unfolding narrow rowsPass
-narrow_layout c = every-layout (λ f l. narrow f) refl refl refl counted c
+unfolding narrow rows_pass
+narrow_layout c = every_layout (λ f l. narrow f) refl refl refl counted c
   where
     counted : (c : ℕ) (n : Option ℕ) → narrow (by_count c n).field ≡ true
     counted c nothing = unfold narrow in refl

@@ -15,7 +15,7 @@ use Rattle.layouts.specs.declared.Shape.{Shape}
 use Rattle.instruction_fields.specs.Fields.{rest}
 use Rattle.instruction_fields.specs.declared.Place.{Place}
 use Rattle.instruction_fields.specs.declared.Place.TheVariants.{At, Off}
-use Rattle.instruction_deep.specs.Confirm.{confirm_words, confirmItem}
+use Rattle.instruction_deep.specs.Confirm.{confirm_words, confirm_item}
 use Rattle.instruction_deep.specs.Walks.{Takes, PassesIn, Passes, words_on}
 use Rattle.instruction_deep.specs.declared.Parts.TheVariants.{To}
 use Rattle.instruction_deep.proofs.Items.{bounds, takes_none, passes_item, blocks_item, passes_first, passes_off, passes_then}
@@ -30,34 +30,34 @@ module _ (ws : List ℕ) (w : ℕ) (h : w ≤ length ws) where
   pub stays : (m : Bool) (items : List Item) → items ≡ [] → PassesIn m items ws w (At w)
   stays m items e rs r = let z : 0 ≡ w - w = omega arith in subst (λ (n : ℕ). Takes m items 0 rs ws r w (To r w n)) z (takes_none items e h)
 
-  one-small : (m : Bool) → 1 ≤ length ws - w → get_or ws w 0 < 65_536 → PassesIn m (small ∷ []) ws w (At (w + 1))
-  unfolding confirmItem
-  one-small m k l = passes_item 1 h k (λ rs r. rw (le-leb 1 (length (drop w ws)) (omega (arith, left)), front, lt-ltb (get_or ws w 0) 65_536 l))
+  one_small : (m : Bool) → 1 ≤ length ws - w → get_or ws w 0 < 65_536 → PassesIn m (small ∷ []) ws w (At (w + 1))
+  unfolding confirm_item
+  one_small m k l = passes_item 1 h k (λ rs r. rw (le-leb 1 (length (drop w ws)) (omega (arith, left)), front, lt-ltb (get_or ws w 0) 65_536 l))
 
   no_small : (m : Bool) → length ws - w < 1 → PassesIn m (small ∷ []) ws w Off
-  unfolding confirmItem
+  unfolding confirm_item
   no_small m k = blocks_item (λ rs r. rw (lt-leb 1 (length (drop w ws)) (omega (arith, left))))
 
   large : (m : Bool) → 1 ≤ length ws - w → 65_536 ≤ get_or ws w 0 → PassesIn m (small ∷ []) ws w Off
-  unfolding confirmItem
+  unfolding confirm_item
   large m k l = blocks_item (λ rs r. rw (le-leb 1 (length (drop w ws)) (omega (arith, left)), front, le-ltb (get_or ws w 0) 65_536 l))
 
   one_list : (m : Bool) (b : ℕ) → 1 + get_or ws w 0 % 2 ^ b ≤ length ws - w → PassesIn m (list b ∷ []) ws w (At (w + (1 + get_or ws w 0 % 2 ^ b)))
-  unfolding confirmItem
+  unfolding confirm_item
   one_list m b k = passes_item (1 + get_or ws w 0 % 2 ^ b) h k (λ rs r. rw (front, le-leb (1 + get_or ws w 0 % 2 ^ b) (length (drop w ws)) (omega (arith, left))))
 
   no_list : (m : Bool) (b : ℕ) → length ws - w < 1 + get_or ws w 0 % 2 ^ b → PassesIn m (list b ∷ []) ws w Off
-  unfolding confirmItem
+  unfolding confirm_item
   no_list m b k = blocks_item (λ rs r. rw (front, lt-leb (1 + get_or ws w 0 % 2 ^ b) (length (drop w ws)) (omega (arith, left))))
 
   pub all_words : (m : Bool) → PassesIn m (tail ∷ []) ws w (At (length ws))
-  unfolding confirmItem
+  unfolding confirm_item
   all_words m =
       let z : w + (length ws - w) ≡ length ws = omega arith in
       subst (λ (n : ℕ). PassesIn m (tail ∷ []) ws w (At n)) z (passes_item (length ws - w) h (omega arith) (λ rs r. rw (left, le-leb (length ws - w) (length ws - w) (omega arith))))
 
   -- a word
-  module _ (m : Bool) (i : Item) (e : (rs : List ℕ) (r : ℕ) → confirmItem m i rs (drop w ws) r w ≡ confirm_words 1 true rs (drop w ws) r w) where
+  module _ (m : Bool) (i : Item) (e : (rs : List ℕ) (r : ℕ) → confirm_item m i rs (drop w ws) r w ≡ confirm_words 1 true rs (drop w ws) r w) where
     one_word : PassesIn m (i ∷ []) ws w (words_on (length ws) w 1)
     one_word = go (leb 1 (length ws - w)) refl
       where
@@ -65,9 +65,9 @@ module _ (ws : List ℕ) (w : ℕ) (h : w ≤ length ws) where
         go true k = passes_item 1 h (leb-true 1 (length ws - w) k) (λ rs r. e rs r ∙ rw (left, k))
         go false k = blocks_item (λ rs r. e rs r ∙ rw (left, k))
 
-  extra-none : PassesIn false (s ∷ []) ws w (At w)
-  unfolding confirmItem
-  extra-none = subst (λ (n : ℕ). PassesIn false (s ∷ []) ws w (At n)) (plus-zero w) (passes_item 0 h (omega arith) (λ rs r. rw (le-leb 0 (length (drop w ws)) (omega arith))))
+  extra_none : PassesIn false (s ∷ []) ws w (At w)
+  unfolding confirm_item
+  extra_none = subst (λ (n : ℕ). PassesIn false (s ∷ []) ws w (At n)) (plus-zero w) (passes_item 0 h (omega arith) (λ rs r. rw (le-leb 0 (length (drop w ws)) (omega arith))))
 
 -- words one after the other
 more_words : (m : Bool) (A B : List Item) (ws : List ℕ) (w a b : ℕ) → w ≤ length ws → PassesIn m A ws w (words_on (length ws) w a) → (w + a ≤ length ws → PassesIn m B ws (w + a) (words_on (length ws) (w + a) b)) → PassesIn m (A ++ B) ws w (words_on (length ws) w (a + b))
@@ -89,25 +89,25 @@ more_words m A B ws w a b h f g = go (leb a (length ws - w)) refl (leb b (length
 words_none : (m : Bool) (items : List Item) (ws : List ℕ) (w : ℕ) → PassesIn m items ws w (At w) → PassesIn m items ws w (words_on (length ws) w 0)
 words_none m items ws w f = rw (le-leb 0 (length ws - w) (omega arith)) (subst (λ (n : ℕ). PassesIn m items ws w (At n)) (sym (plus-zero w)) f)
 
-run_words : (m : Bool) (i : Item) → ((rs ws : List ℕ) (r w : ℕ) → confirmItem m i rs ws r w ≡ confirm_words 1 true rs ws r w) → (k : ℕ) (ws : List ℕ) (w : ℕ) → w ≤ length ws → PassesIn m (replicate k i) ws w (words_on (length ws) w k)
+run_words : (m : Bool) (i : Item) → ((rs ws : List ℕ) (r w : ℕ) → confirm_item m i rs ws r w ≡ confirm_words 1 true rs ws r w) → (k : ℕ) (ws : List ℕ) (w : ℕ) → w ≤ length ws → PassesIn m (replicate k i) ws w (words_on (length ws) w k)
 run_words m i e zero ws w h = words_none m [] ws w (stays ws w h m [] refl)
 run_words m i e (suc k) ws w h =
     let z : 1 + k ≡ suc k = omega arith in
     rw z at (more_words m (i ∷ []) (replicate k i) ws w 1 k h (one_word ws w h m i (λ rs r. e rs (drop w ws) r w)) (λ l. run_words m i e k ws (w + 1) l))
 
 pub words_on_lem : (m : Bool) (k : ℕ) (ws : List ℕ) (w : ℕ) → w ≤ length ws → PassesIn m (replicate k d) ws w (words_on (length ws) w k)
-unfolding confirmItem
+unfolding confirm_item
 words_on_lem m k ws w h = run_words m d (λ rs ws r w. refl) k ws w h
 
 -- one more word each in model 5.1, none otherwise
 extras : (m : Bool) (x : ℕ) (ws : List ℕ) (w : ℕ) → w ≤ length ws → PassesIn m (replicate x s) ws w (words_on (length ws) w (cond m x 0))
-unfolding confirmItem
+unfolding confirm_item
 extras true x ws w h = run_words true s (λ rs ws r w. refl) x ws w h
 extras false x ws w h = words_none false (replicate x s) ws w (go x)
   where
     go : (x : ℕ) → PassesIn false (replicate x s) ws w (At w)
     go zero = stays ws w h false [] refl
-    go (suc x) = passes_then (s ∷ []) (replicate x s) (extra-none ws w h) (go x)
+    go (suc x) = passes_then (s ∷ []) (replicate x s) (extra_none ws w h) (go x)
 
 -- ---- the code's ways
 module _ (n at k k₁ : ℕ) (e : k₁ ≡ k) where
@@ -129,7 +129,7 @@ module _ (ws : List ℕ) (at : ℕ) (h : at ≤ length ws) where
     small_large e g m = rw is_one (large ws at h m (omega arith) g)
 
     pub small_to : at < length ws → get_or ws at 0 < 65_536 → Passes (replicate k small) ws at (At (at + 1))
-    small_to e g m = rw is_one (one-small ws at h m (omega arith) g)
+    small_to e g m = rw is_one (one_small ws at h m (omega arith) g)
 
   pub none_small : (k : ℕ) → k ≡ 0 → Passes (replicate k small) ws at (At at)
   none_small k z m = stays ws at h m _ (rw z)
@@ -138,21 +138,21 @@ module _ (ws : List ℕ) (at : ℕ) (h : at ≤ length ws) where
   none_listed k z m = stays ws at h m _ (rw z)
 
   module _ (b : ℕ) (z : b ≡ 0 → ⊥) where
-    listed-one : listed b ≡ list b ∷ []
-    listed-one = rw (ne_eqb b 0 z)
+    listed_one : listed b ≡ list b ∷ []
+    listed_one = rw (ne_eqb b 0 z)
 
     pub list_end : length ws ≤ at → Passes (listed b) ws at Off
-    list_end e m = rw listed-one (no_list ws at h m b (omega arith))
+    list_end e m = rw listed_one (no_list ws at h m b (omega arith))
 
     module _ (y k : ℕ) (q : y ≡ get_or ws at 0 % 2 ^ b) (f : k ≡ y) (e : at < length ws) where
       pub list_long : length ws - at - 1 < k → Passes (listed b) ws at Off
-      list_long l m = let v : k ≡ get_or ws at 0 % 2 ^ b = f ∙ q in rw listed-one (no_list ws at h m b (omega arith))
+      list_long l m = let v : k ≡ get_or ws at 0 % 2 ^ b = f ∙ q in rw listed_one (no_list ws at h m b (omega arith))
 
       pub list_to : k ≤ length ws - at - 1 → Passes (listed b) ws at (At (at + 1 + k))
       list_to l m =
           let v : get_or ws at 0 % 2 ^ b ≡ k = sym (f ∙ q) in
           let u : at + (1 + get_or ws at 0 % 2 ^ b) ≡ at + 1 + k = omega arith in
-          rw listed-one (subst (λ (n : ℕ). PassesIn m (list b ∷ []) ws at (At n)) u (one_list ws at h m b (omega arith)))
+          rw listed_one (subst (λ (n : ℕ). PassesIn m (list b ∷ []) ws at (At n)) u (one_list ws at h m b (omega arith)))
 
 pub place_bounds : {m : Bool} {items : List Item} {ws : List ℕ} {at k : ℕ} {p : Place} → PassesIn m items ws at p → p ≡ At k → (at ≤ k) × (k ≤ length ws)
 place_bounds {m} {items} {ws} {at} {k} f e = let b = bounds (subst (PassesIn m items ws at) e f [] 0) in (b.words_from, b.words_to)
@@ -192,22 +192,22 @@ module _ (m : Bool) (x : Shape) (ws : List ℕ) (at : ℕ) {p : Place} (p₁ : P
     pub rest_words_off : q ≡ Off → PassesIn m (rest x) ws at Off
     rest_words_off e = past_off (passes_first middle end (subst (PassesIn m middle ws a) e first_part))
 
-    second-part : (b : ℕ) → q ≡ At b → PassesIn m middle ws a (At b)
-    second-part b eb = subst (PassesIn m middle ws a) eb first_part
+    second_part : (b : ℕ) → q ≡ At b → PassesIn m middle ws a (At b)
+    second_part b eb = subst (PassesIn m middle ws a) eb first_part
 
     pub rest_within : (b : ℕ) → q ≡ At b → b ≤ length ws
-    rest_within b eb = (place_bounds (second-part b eb) refl).1
+    rest_within b eb = (place_bounds (second_part b eb) refl).1
 
     module _ (b : ℕ) (eb : q ≡ At b) (u : Place) (p₃ : Passes (listed x.list) ws b u) where
       pub rest_list_off : u ≡ Off → PassesIn m (rest x) ws at Off
-      rest_list_off e = past_off (passes_off middle end (second-part b eb) (passes_first (listed x.list) (tailed x.tail) (subst (PassesIn m _ ws b) e (p₃ m))))
+      rest_list_off e = past_off (passes_off middle end (second_part b eb) (passes_first (listed x.list) (tailed x.tail) (subst (PassesIn m _ ws b) e (p₃ m))))
 
       module _ (c : ℕ) (ec : u ≡ At c) where
         lists : PassesIn m (listed x.list) ws b (At c)
         lists = subst (PassesIn m _ ws b) ec (p₃ m)
 
         last : (k : ℕ) → PassesIn m (tailed x.tail) ws c (At k) → PassesIn m (rest x) ws at (At k)
-        last k f = past_to k (passes_then middle end (second-part b eb) (passes_then (listed x.list) (tailed x.tail) lists f))
+        last k f = past_to k (passes_then middle end (second_part b eb) (passes_then (listed x.list) (tailed x.tail) lists f))
 
         pub rest_tail : x.tail ≡ true → PassesIn m (rest x) ws at (At (length ws))
         rest_tail z = last (length ws) (rw z (all_words ws c (place_bounds lists refl).1 m))

@@ -25,7 +25,7 @@ use Rattle.operand_deep.specs.declared.Walked.TheVariants.{Is, Not}
 use Rattle.operand_deep.proofs.Every.{Every, unmet, met, every_if, every_of}
 use Rattle.operand_deep.proofs.Found.{walk_found, walk_lost}
 use Rattle.operand_deep.proofs.Walks.{no_row}
-use Rattle.instruction_deep.specs.Confirm.{confirmItem}
+use Rattle.instruction_deep.specs.Confirm.{confirm_item}
 use Rattle.instruction_deep.specs.Walks.{add, sum_at, Takes, takes, lacks, PassesIn, words_on, Runs}
 use Rattle.instruction_deep.specs.declared.Parts.{Parts}
 use Rattle.instruction_deep.specs.declared.Parts.TheVariants.{To, Lost}
@@ -45,26 +45,26 @@ each nothing f k = unmet
 each (just x) f k = k x
 
 module _ (p : Confirmer) (q : List ℕ) (t : ℕ) (e rs ws : List ℕ) (r w : ℕ) where
-  one-immediates : Every One (confirm_immediates q t e ws r w)
+  one_immediates : Every One (confirm_immediates q t e ws r w)
   unfolding confirm_immediates
-  one-immediates = every_if (eqb (op.dimension t) 0 && leb (op.immediates t) (length ws)) _ nothing (λ h. one_confirmed q r w t e (take (op.immediates t) ws) none none none) (λ h. unmet)
+  one_immediates = every_if (eqb (op.dimension t) 0 && leb (op.immediates t) (length ws)) _ nothing (λ h. one_confirmed q r w t e (take (op.immediates t) ws) none none none) (λ h. unmet)
 
-  one-indices : Every One (confirm_indices p q t e rs ws r w)
+  one_indices : Every One (confirm_indices p q t e rs ws r w)
   unfolding confirm_indices
-  one-indices =
+  one_indices =
       each (confirm_index p (op.repr 0 t) rs ws (r + 1) w) _ (λ a.
       each (behind a (confirm_index p (op.repr 1 t)) rs ws (r + 1) w) _ (λ b.
       each (behind a (behind b (confirm_index p (op.repr 2 t))) rs ws (r + 1) w) _ (λ c. one_confirmed q r w t e [] a b c)))
 
-  one-front : Every One (confirm_front p q t e rs ws r w)
+  one_front : Every One (confirm_front p q t e rs ws r w)
   unfolding confirm_front
-  one-front = every_if (op.exact_dword t && op.exact_extension e) (cond (op.immediate t) (confirm_immediates q t e ws r w) (confirm_indices p q t e rs ws r w)) nothing
-      (λ h. every_if (op.immediate t) (confirm_immediates q t e ws r w) (confirm_indices p q t e rs ws r w) (λ h. one-immediates) (λ h. one-indices)) (λ h. unmet)
+  one_front = every_if (op.exact_dword t && op.exact_extension e) (cond (op.immediate t) (confirm_immediates q t e ws r w) (confirm_indices p q t e rs ws r w)) nothing
+      (λ h. every_if (op.immediate t) (confirm_immediates q t e ws r w) (confirm_indices p q t e rs ws r w) (λ h. one_immediates) (λ h. one_indices)) (λ h. unmet)
 
 one_operand : (k : ℕ) (rs ws : List ℕ) (r w : ℕ) → Every One (confirm k rs ws r w)
 unfolding confirm
 one_operand zero rs ws r w = unmet
-one_operand (suc k) rs ws r w = every_if (leb 16 (length rs)) _ nothing (λ h. one-front (confirm k) (take 16 rs) (operand_dword (take 16 rs)) (extension_of (at 3 (take 16 rs))) (drop 16 rs) ws r w) (λ h. unmet)
+one_operand (suc k) rs ws r w = every_if (leb 16 (length rs)) _ nothing (λ h. one_front (confirm k) (take 16 rs) (operand_dword (take 16 rs)) (extension_of (at 3 (take 16 rs))) (drop 16 rs) ws r w) (λ h. unmet)
 
 -- ---- the answer of walking an operand
 there_row : (rs ws : List ℕ) (r w i n k : ℕ) → Is i n k ≡ walked (there (confirm 64) rs ws r w) → 16 * r ≤ length rs
@@ -75,7 +75,7 @@ there_row rs ws r w i n k e = go (leb (length rs / 16) r) refl
     go false h = let z = leb-false (length rs / 16) r h in omega arith
 
 pub operand_takes : (m : Bool) (rs ws : List ℕ) (r w i n k : ℕ) → w ≤ length ws → Is i n k ≡ walked (there (confirm 64) rs ws r w) → Takes m (o ∷ []) 1 rs ws r w (To (r + i) (w + n) k)
-unfolding confirmItem
+unfolding confirm_item
 operand_takes m rs ws r w i n k h e =
     let f = walk_found 64 rs ws r w (there_row rs ws r w i n k e) i n k e in
     let t = every_of f.is (one_operand 64 (drop (16 * r) rs) (drop w ws) r w) in
@@ -85,7 +85,7 @@ operand_takes m rs ws r w i n k h e =
     item_step m o l rs ws r w f.tree f.is ∙ rw (f.rows_are, f.words_are, f.dwords_are, t) (λ j. add (z₁ j) (z₂ j) k 1 (sum_at m l rs ws (r + i) (w + n))))
 
 pub operand_lost : (m : Bool) (rs ws : List ℕ) (r w : ℕ) → Not ≡ walked (there (confirm 64) rs ws r w) → Takes m (o ∷ []) 1 rs ws r w Lost
-unfolding confirmItem
+unfolding confirm_item
 operand_lost m rs ws r w e = lacks (λ l. item_off m o l rs ws r w (walk_lost _ e))
 
 -- ---- i of k operands have been walked
@@ -165,18 +165,18 @@ module _ (m : Bool) (x : Shape) (rs ws : List ℕ) (r w : ℕ) (h : w ≤ length
           rest_off z = takes_off {b = replicate x.operands o ++ rest x} at_first (takes_off {b = rest x} at_second (subst (PassesIn m (rest x) ws b) z last rs r₁) x.operands) x.operands
 
           module _ (w₁ : ℕ) (ew : u ≡ At w₁) where
-            at-third : Takes m (rest x) 0 rs ws r₁ b (To r₁ w₁ (w₁ - b))
-            at-third = subst (PassesIn m (rest x) ws b) ew last rs r₁
+            at_third : Takes m (rest x) 0 rs ws r₁ b (To r₁ w₁ (w₁ - b))
+            at_third = subst (PassesIn m (rest x) ws b) ew last rs r₁
 
             pub third_bounds : (b ≤ w₁) × (w₁ ≤ length ws)
-            third_bounds = let b = bounds at-third in (b.words_from, b.words_to)
+            third_bounds = let b = bounds at_third in (b.words_from, b.words_to)
 
             pub all_parts_lem : Takes m (items_of x) x.operands rs ws r w (To r₁ w₁ (a - w + n + (w₁ - b)))
             unfolding items_of rest
             all_parts_lem =
                 let z : 0 + (x.operands + 0) ≡ x.operands = omega arith in
                 let y : a - w + (n + (w₁ - b)) ≡ a - w + n + (w₁ - b) = omega arith in
-                rw (z, y) at (takes_then {b = replicate x.operands o ++ rest x} at_first (takes_then {b = rest x} at_second at-third))
+                rw (z, y) at (takes_then {b = replicate x.operands o ++ rest x} at_first (takes_then {b = rest x} at_second at_third))
 
             pub parts_few : a - w + n + (w₁ - b) ≤ length rs + length ws
             parts_few =

@@ -136,18 +136,18 @@ module _ (q : List ℕ) (place r w : ℕ) (ws : List ℕ) where
   abbrev Plain : Type 0
   Plain = Bare q (length ws) (code_of ws)
 
-  same-unread : Plain → There → length q ≡ 16 → q ≡ unread_row place r w ws
+  same_unread : Plain → There → length q ≡ 16 → q ≡ unread_row place r w ws
   unfolding unread_row
-  same-unread b h z =
+  same_unread b h z =
       let f = b.no_fields in
       let g = b.no_chain in
       sixteen q z ∙ (λ i.
       h.place_is i ∷ b.dwords_are i ∷ b.code_is i ∷ h.kind_is i ∷ f.saturate_is i ∷ f.test_is i ∷ f.precise_is i ∷ f.field_is i ∷
       g.bits_are i ∷ g.no_first i ∷ g.no_second i ∷ g.no_third i ∷ h.row_is i ∷ h.operands_are i ∷ h.word_is i ∷ h.words_are i ∷ [])
 
-  unread-same : q ≡ unread_row place r w ws → Plain × There
+  unread_same : q ≡ unread_row place r w ws → Plain × There
   unfolding unread_row
-  unread-same s = (
+  unread_same s = (
     record {
       dwords_are = ap (at 1) s;
       code_is = ap (at 2) s;
@@ -160,7 +160,7 @@ module _ (q : List ℕ) (place r w : ℕ) (ws : List ℕ) where
   pub read_not : 0 < length ws → length_of (at 0 ws) (drop 1 ws) ≡ length ws → Plain → There → length q ≡ 16 → confirm_unread q place [] ws r w ≡ just (unread ws)
   unfolding confirm_unread
   read_not k n b h z =
-      let s : same q (unread_row place r w ws) ≡ true = ap (same q) (sym (same-unread b h z)) ∙ same_refl q in
+      let s : same q (unread_row place r w ws) ≡ true = ap (same q) (sym (same_unread b h z)) ∙ same_refl q in
       rw (lt-ltb 0 (length ws) k, eq-eqb _ _ n, s)
 
   pub unread_not : (0 < length ws → length_of (at 0 ws) (drop 1 ws) ≡ length ws → Plain → There → ⊥) → confirm_unread q place [] ws r w ≡ nothing
@@ -171,6 +171,6 @@ module _ (q : List ℕ) (place r w : ℕ) (ws : List ℕ) where
       go true z =
           let a = both _ (same q (unread_row place r w ws)) z in
           let b = both (ltb 0 (length ws)) _ a.0 in
-          let p = unread-same (same_eq q _ a.1) in
+          let p = unread_same (same_eq q _ a.1) in
           absurd (k (ltb-true 0 (length ws) b.0) (eqb-true _ _ b.1) p.0 p.1)
       go false z = refl

@@ -13,7 +13,7 @@ use Rattle.format.specs.Dwords.{bits, follows, got, dword, none_left}
 use Rattle.format.specs.Framing.{code, code_of, sized, length_of}
 use Rattle.format.specs.Declarations.{Layout, layout, chained}
 use Rattle.format.specs.Operands.{Tree, parts_dwords, exact_parts}
-use Rattle.format.specs.Instructions.{Instruction, unread, pieces, ok, readItems, split, exact_class, exact_pieces, checked, judged, read, dwords}
+use Rattle.format.specs.Instructions.{Instruction, unread, pieces, ok, read_items, split, exact_class, exact_pieces, checked, judged, read, dwords}
 use Rattle.format.specs.Rows.{tree_words, tree_rows, tree_table, parts_words, parts_rows, parts_table, parts, unread_row, instruction_row}
 use Rattle.format.specs.Encoder.{at, token_of_row, head_of_row, same}
 use Rattle.format.proofs.Dwords.{impossible, both}
@@ -48,10 +48,10 @@ module _ (t : ℕ) (e : List ℕ) (ps : List Tree) where
   unfolding headed exact_pieces exact_class
   exact_of x h k = ap₂ (λ (a b : Bool). a && b) h k
 
-  pieces-read : (c : ℕ) (m : Bool) → ltb (code t) c ≡ true → head_taken (layout (code t)) t e ≡ true → readItems m (layout (code t)).items (parts_dwords ps) ≡ got ps [] → exact_pieces (layout (code t)) t e ps ≡ true →
+  pieces_read : (c : ℕ) (m : Bool) → ltb (code t) c ≡ true → head_taken (layout (code t)) t e ≡ true → read_items m (layout (code t)).items (parts_dwords ps) ≡ got ps [] → exact_pieces (layout (code t)) t e ps ≡ true →
       read c m (t ∷ (e ++ parts_dwords ps)) ≡ ok (pieces t e ps)
   unfolding read code_of split dword none_left judged checked
-  pieces-read c m hc hh hr hx = rw (hc, head_reads (layout (code t)) t e (parts_dwords ps) hh, hr, hx)
+  pieces_read c m hc hh hr hx = rw (hc, head_reads (layout (code t)) t e (parts_dwords ps) hh, hr, hx)
 
 -- its length is told by its own dwords
 head_framed : (x : Layout) (t : ℕ) (e l : List ℕ) → head_taken x t e ≡ true → length_of t (e ++ l) ≡ length_of t e
@@ -74,12 +74,12 @@ module _ (c : ℕ) (m : Bool) (q : List ℕ) (place : ℕ) (rs ws : List ℕ) (r
   unfolding instruction_row
   code_is t e ps s = ap (at 2) s
 
-  of-pieces : (t : ℕ) (e : List ℕ) (ps : List Tree) → ltb (code t) c ≡ true → Taken m (layout (code t)).items rs ws r w ps → headed (layout (code t)) t e (length (parts_dwords ps)) ≡ true → head_taken (layout (code t)) t e ≡ true →
+  of_pieces : (t : ℕ) (e : List ℕ) (ps : List Tree) → ltb (code t) c ≡ true → Taken m (layout (code t)).items rs ws r w ps → headed (layout (code t)) t e (length (parts_dwords ps)) ≡ true → head_taken (layout (code t)) t e ≡ true →
       length_of t e ≡ length (dwords (pieces t e ps)) → q ≡ instruction_row place r w (pieces t e ps) → Confirmed c m q place rs ws r w (pieces t e ps)
   unfolding dwords parts
-  of-pieces t e ps hc k hh ht hl s =
+  of_pieces t e ps hc k hh ht hl s =
       let i : Instruction = pieces t e ps in
-      let d : read c m (t ∷ (e ++ parts_dwords ps)) ≡ ok i = pieces-read t e ps c m hc ht k.reads (exact_of t e ps (layout (code t)) hh k.exact) in
+      let d : read c m (t ∷ (e ++ parts_dwords ps)) ≡ ok i = pieces_read t e ps c m hc ht k.reads (exact_of t e ps (layout (code t)) hh k.exact) in
       let x : Exact t e ps = exact_in (kept_ok (read_sound c m t (e ++ parts_dwords ps)) d) in
       let v : ws ≡ parts_words ps = whole (parts_words ps) ws k.words (n ∙ ap (at 15) s ∙ row_words place r w i) in
       let a : at 1 q ≡ length (dwords i) = unfold instruction_row in ap (at 1) s in
@@ -97,9 +97,9 @@ module _ (c : ℕ) (m : Bool) (q : List ℕ) (place : ℕ) (rs ws : List ℕ) (r
             (fit_append (fit_head (layout (code t)) t e ht x.chain (rw (hl, ← a) (fit_all f 1 (omega (arith, ap length s, row_length place r w i))))) (fit_parts ps k.exact (subst Fit v g)));
       }
 
-  sound-pieces : (t : ℕ) (e : List ℕ) (ps : List Tree) → ltb (at 2 q) c ≡ true → Taken m (layout (at 2 q)).items rs ws r w ps → Every (Confirmed c m q place rs ws r w) (confirm_pieces q place r w t e ps)
+  sound_pieces : (t : ℕ) (e : List ℕ) (ps : List Tree) → ltb (at 2 q) c ≡ true → Taken m (layout (at 2 q)).items rs ws r w ps → Every (Confirmed c m q place rs ws r w) (confirm_pieces q place r w t e ps)
   unfolding confirm_pieces
-  sound-pieces t e ps hc k =
+  sound_pieces t e ps hc k =
       let x = layout (at 2 q) in
       let i : Instruction = pieces t e ps in
       let h : Bool = headed x t e (length (parts_dwords ps)) in
@@ -112,12 +112,12 @@ module _ (c : ℕ) (m : Bool) (q : List ℕ) (place : ℕ) (rs ws : List ℕ) (r
       let z₃ = both h (head_taken x t e) z₂.0 in
       let s : q ≡ instruction_row place r w i = same_eq q (instruction_row place r w i) z₁.1 in
       let a = code_is t e ps s in
-      met (of-pieces t e ps (rw a at hc) (rw a at k) (rw a at z₃.0) (rw a at z₃.1) (eqb-true (length_of t e) _ z₂.1) s))
+      met (of_pieces t e ps (rw a at hc) (rw a at k) (rw a at z₃.0) (rw a at z₃.1) (eqb-true (length_of t e) _ z₂.1) s))
       (λ z. unmet)
 
-  sound-known : ltb (at 2 q) c ≡ true → Every (Confirmed c m q place rs ws r w) (confirm_known m q place rs ws r w)
+  sound_known : ltb (at 2 q) c ≡ true → Every (Confirmed c m q place rs ws r w) (confirm_known m q place rs ws r w)
   unfolding confirm_known
-  sound-known hc = every_then (sound_items m (layout (at 2 q)).items (tail_last_lem (at 2 q)) rs ws r w) (λ ps k. sound-pieces (token_of_row q) (head_of_row q) ps hc k)
+  sound_known hc = every_then (sound_items m (layout (at 2 q)).items (tail_last_lem (at 2 q)) rs ws r w) (λ ps k. sound_pieces (token_of_row q) (head_of_row q) ps hc k)
 
 -- ---- an unread instruction: its length takes a dword that it has
 unread_framed : (t : ℕ) (l left : List ℕ) → length_of t l ≡ length (t ∷ l) → length (t ∷ l) ≡ length_of t (l ++ left)
@@ -130,9 +130,9 @@ unread_framed t [] left h = go (sized t) h
     go false h = sym h
 
 module _ (c : ℕ) (m : Bool) (q : List ℕ) (place : ℕ) (rs : List ℕ) (r w : ℕ) where
-  of-unread : (t : ℕ) (l : List ℕ) → ltb (at 2 q) c ≡ false → length_of t l ≡ length (t ∷ l) → q ≡ unread_row place r w (t ∷ l) → Confirmed c m q place rs (t ∷ l) r w (unread (t ∷ l))
+  of_unread : (t : ℕ) (l : List ℕ) → ltb (at 2 q) c ≡ false → length_of t l ≡ length (t ∷ l) → q ≡ unread_row place r w (t ∷ l) → Confirmed c m q place rs (t ∷ l) r w (unread (t ∷ l))
   unfolding instruction_row parts parts_table parts_rows parts_words tree_table tree_rows tree_words dwords read
-  of-unread t l hc hl s =
+  of_unread t l hc hl s =
       let a : at 2 q ≡ code_of (t ∷ l) = unfold unread_row in ap (at 2) s in
       let k : ltb (code_of (t ∷ l)) c ≡ false = rw a at hc in
       record {
@@ -147,14 +147,14 @@ module _ (c : ℕ) (m : Bool) (q : List ℕ) (place : ℕ) (rs : List ℕ) (r w 
         fit = λ f g. g;
       }
 
-  sound-unread : (ws : List ℕ) → ltb (at 2 q) c ≡ false → Every (Confirmed c m q place rs ws r w) (confirm_unread q place rs ws r w)
+  sound_unread : (ws : List ℕ) → ltb (at 2 q) c ≡ false → Every (Confirmed c m q place rs ws r w) (confirm_unread q place rs ws r w)
   unfolding confirm_unread
-  sound-unread [] hc = unmet
-  sound-unread (t ∷ l) hc = every_if (ltb 0 (length (t ∷ l)) && eqb (length_of t l) (length (t ∷ l)) && same q (unread_row place r w (t ∷ l))) _ _
+  sound_unread [] hc = unmet
+  sound_unread (t ∷ l) hc = every_if (ltb 0 (length (t ∷ l)) && eqb (length_of t l) (length (t ∷ l)) && same q (unread_row place r w (t ∷ l))) _ _
       (λ z.
       let z₁ = both _ (same q (unread_row place r w (t ∷ l))) z in
       let z₂ = both (ltb 0 (length (t ∷ l))) (eqb (length_of t l) (length (t ∷ l))) z₁.0 in
-      met (of-unread t l hc (eqb-true (length_of t l) _ z₂.1) (same_eq q _ z₁.1)))
+      met (of_unread t l hc (eqb-true (length_of t l) _ z₂.1) (same_eq q _ z₁.1)))
       (λ z. unmet)
 
 -- ---- either
@@ -163,8 +163,8 @@ unfolding confirm_instruction
 sound_all c m q place rs ws r w n = go (ltb (at 2 q) c) refl
   where
     go : (b : Bool) → ltb (at 2 q) c ≡ b → Every (Confirmed c m q place rs ws r w) (cond b (confirm_known m q place) (confirm_unread q place) rs ws r w)
-    go true h = sound-known c m q place rs ws r w n h
-    go false h = sound-unread c m q place rs r w ws h
+    go true h = sound_known c m q place rs ws r w n h
+    go false h = sound_unread c m q place rs r w ws h
 
 -- what is confirmed
 pub sound : (c : ℕ) (m : Bool) (q : List ℕ) (place : ℕ) (rs ws : List ℕ) (r w : ℕ) (i : Instruction) → length ws ≡ at 15 q → confirm_instruction c m q place rs ws r w ≡ just i → Confirmed c m q place rs ws r w i

@@ -23,7 +23,7 @@ use Rattle.operand_deep.proofs.Fields.{row_at}
 use Rattle.instruction_fields.specs.Fields.{classed}
 use Rattle.instruction_fields.specs.declared.Place.{Place}
 use Rattle.instruction_fields.specs.declared.Place.TheVariants.{At, Off}
-use Rattle.instruction_deep.specs.Walks.{row_from, Decides, holds, fails, Counts, are, none-are, Headed, Fielded, Sized, Exact, Pieces}
+use Rattle.instruction_deep.specs.Walks.{row_from, Decides, holds, fails, Counts, are, none_are, Headed, Fielded, Sized, Exact, Pieces}
 use Rattle.instruction_deep.proofs.Deciding.{granted, refused, Told, told as counted}
 use Rattle.instruction_deep.proofs.Heads.{sized_dword}
 
@@ -126,22 +126,22 @@ module _ (l : List ℕ) (o n : ℕ) (s : Shape) (laid : Laid (at 2 (row_from o l
                   where
                     go : {p : Place} → Counts (Headed q (layout (code t)) t e) (length e) p → p ≡ Off → Decides (Pieces q n) false
                     go (are k a) z = impossible (cc)
-                    go (none-are g) z = fails (λ p. g (rw same_layout (known p).head))
+                    go (none_are g) z = fails (λ p. g (rw same_layout (known p).head))
 
                 module _ (k : ℕ) (ek : p ≡ At k) where
-                  head-told : Told (Headed q (layout (code t)) t e) (length e) k
-                  head-told = counted d₅ ek
+                  head_told : Told (Headed q (layout (code t)) t e) (length e) k
+                  head_told = counted d₅ ek
 
                   pub few : k ≤ 3
-                  few = head-told.few
+                  few = head_told.few
 
                   -- the length, whether it is in the token or in the next dword
-                  length-is : (j : ℕ) → get_or l (o + 1) 0 ≡ j → length_of t e ≡ cond (sized t) j (bits 24 30 t)
+                  length_is : (j : ℕ) → get_or l (o + 1) 0 ≡ j → length_of t e ≡ cond (sized t) j (bits 24 30 t)
                   unfolding length_of
-                  length-is j z = go (sized t) refl
+                  length_is j z = go (sized t) refl
                     where
                       go : (b : Bool) → sized t ≡ b → cond b (get_or e 0 0) (bits 24 30 t) ≡ cond b j (bits 24 30 t)
-                      go true y = rw (sized_dword q t code_is y head-told.is) (row_at l o 1 (lit< tt) ∙ z)
+                      go true y = rw (sized_dword q t code_is y head_told.is) (row_at l o 1 (lit< tt) ∙ z)
                       go false y = refl
 
                   pub decided : {b : Bool} → Decides (Sized (get_or l (o + 1) 0) t (1 + k + n)) b → Decides (Pieces q n) b
@@ -149,13 +149,13 @@ module _ (l : List ℕ) (o n : ℕ) (s : Shape) (laid : Laid (at 2 (row_from o l
                     token = eqb-true t _ (rw (← ef) (sym e₁ ∙ not-false b₁ h₁));
                     bounds = sym e₂ ∙ not-false b₂ h₂;
                     class = sym e₃ ∙ not-false b₃ h₃;
-                    size = length-is (get_or l (o + 1) 0) refl ∙ z.token_is ∙ ap (λ (j : ℕ). 1 + j + n) (sym head-told.size);
-                    dwords_are = row_at l o 1 (lit< tt) ∙ z.row_is ∙ ap (λ (j : ℕ). 1 + j + n) (sym head-told.size);
+                    size = length_is (get_or l (o + 1) 0) refl ∙ z.token_is ∙ ap (λ (j : ℕ). 1 + j + n) (sym head_told.size);
+                    dwords_are = row_at l o 1 (lit< tt) ∙ z.row_is ∙ ap (λ (j : ℕ). 1 + j + n) (sym head_told.size);
                     code_is = code_is;
                     fields_are = rw (← ef) (granted d₄ (not-false b₄ h₄));
-                    head = rw (← same_layout) head-told.is;
+                    head = rw (← same_layout) head_told.is;
                   }))
                   decided (fails g) = fails (λ p. g (record {
-                    row_is = sym (row_at l o 1 (lit< tt)) ∙ (known p).dwords_are ∙ ap (λ (j : ℕ). 1 + j + n) head-told.size;
-                    token_is = sym (length-is (get_or l (o + 1) 0) refl) ∙ (known p).size ∙ ap (λ (j : ℕ). 1 + j + n) head-told.size;
+                    row_is = sym (row_at l o 1 (lit< tt)) ∙ (known p).dwords_are ∙ ap (λ (j : ℕ). 1 + j + n) head_told.size;
+                    token_is = sym (length_is (get_or l (o + 1) 0) refl) ∙ (known p).size ∙ ap (λ (j : ℕ). 1 + j + n) head_told.size;
                   }))

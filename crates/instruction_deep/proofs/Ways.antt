@@ -21,7 +21,7 @@ use Rattle.format.proofs.Dwords.{impossible}
 use Rattle.layouts.specs.Shapes.{Laid, meant, items_of}
 use Rattle.layouts.specs.declared.Shape.{Shape}
 use Rattle.operand_deep.proofs.Fields.{row_at}
-use Rattle.instruction_deep.specs.Confirm.{confirmItems, confirm_pieces, confirm_known, confirm_unread}
+use Rattle.instruction_deep.specs.Confirm.{confirm_items, confirm_pieces, confirm_known, confirm_unread}
 use Rattle.instruction_deep.specs.Walks.{walked_instruction, off, sum, add, total, sum_at, Takes, takes, lacks, row_from, Decides, holds, fails, Unchained, Fielded, Pieces, Placed, Bare}
 use Rattle.instruction_deep.specs.declared.Walked.TheVariants.{Is, Not}
 use Rattle.instruction_deep.specs.declared.Parts.{Parts}
@@ -48,7 +48,7 @@ lost nothing e = refl
 lost (just ps) e = impossible (cc)
 
 nothing_more : (m : Bool) (rs ws : List ℕ) (r w : ℕ) → sum_at m [] rs ws r w ≡ sum 0 0 0 0
-unfolding sum_at confirmItems parts_rows parts_words parts_dwords top_level
+unfolding sum_at confirm_items parts_rows parts_words parts_dwords top_level
 nothing_more m rs ws r w = refl
 
 plus_nothing : (r w n k : ℕ) → add r w n k (sum 0 0 0 0) ≡ sum r w n k
@@ -62,7 +62,7 @@ module _ (l : List ℕ) (o place : ℕ) (m : Bool) (rs ws : List ℕ) (r w : ℕ
   whole = confirm_known m q place (drop (16 * r) rs) (drop w ws) r w
 
   abbrev items : Option (List Tree)
-  items = confirmItems m (items_of s) (drop (16 * r) rs) (drop w ws) r w
+  items = confirm_items m (items_of s) (drop (16 * r) rs) (drop w ws) r w
 
   pub laid_row : Laid (at 2 (row_from o l)) s
   laid_row = rw (row_at l o 2 (lit< tt)) laid
@@ -99,9 +99,9 @@ module _ (l : List ℕ) (o place : ℕ) (m : Bool) (rs ws : List ℕ) (r w : ℕ
               let z : sum_at m (items_of s) rs ws r w ≡ add (r₁ - r) (w₁ - w) n s.operands (sum_at m [] rs ws r₁ w₁) = rw (append-nil (items_of s)) at (f []) in
               found items (z ∙ ap (add (r₁ - r) (w₁ - w) n s.operands) (nothing_more m rs ws r₁ w₁) ∙ plus_nothing (r₁ - r) (w₁ - w) n s.operands)
 
-      to-pieces : whole ≡ confirm_pieces q place r w (token_of_row q) (head_of_row q) sums.parts
+      to_pieces : whole ≡ confirm_pieces q place r w (token_of_row q) (head_of_row q) sums.parts
       unfolding confirm_known
-      to-pieces = rw (by_shape, sums.is)
+      to_pieces = rw (by_shape, sums.is)
 
       -- the row's other words
       abbrev Here : Type 0
@@ -111,11 +111,11 @@ module _ (l : List ℕ) (o place : ℕ) (m : Bool) (rs ws : List ℕ) (r w : ℕ
       kinds = ap (λ (x : Layout). x.kind) by_shape
 
       pub unlike : {c : Bool} → Decides (Pieces q n) c → not c ≡ true → Not ≡ walked_instruction whole
-      unlike {c} d₂ k = rw (to-pieces, unconfirmed q place r w sums.parts (λ p z. refused d₂ (not-true c k) (rw sums.dwords_are at p)))
+      unlike {c} d₂ k = rw (to_pieces, unconfirmed q place r w sums.parts (λ p z. refused d₂ (not-true c k) (rw sums.dwords_are at p)))
 
       module _ {b : Bool} (d₁ : Decides Here b) where
         pub misplaced : not b ≡ true → Not ≡ walked_instruction whole
-        misplaced k = rw (to-pieces, unconfirmed q place r w sums.parts (λ p z. refused d₁ (not-true b k) (rw (kinds, sums.tops_are, sums.words_are) at z)))
+        misplaced k = rw (to_pieces, unconfirmed q place r w sums.parts (λ p z. refused d₁ (not-true b k) (rw (kinds, sums.tops_are, sums.words_are) at z)))
 
         module _ (h₁ : not b ≡ false) {c : Bool} (d₂ : Decides (Pieces q n) c) where
           pub walks : not c ≡ false → (y : ℕ) → y ≡ get_or l (o + 1) 0 → Is (r₁ - r) y ≡ walked_instruction whole
@@ -125,7 +125,7 @@ module _ (l : List ℕ) (o place : ℕ) (m : Bool) (rs ws : List ℕ) (r w : ℕ
               let z : Placed q place (layout (at 2 q)).kind r (top_level sums.parts) w (length (parts_words sums.parts)) = rw (kinds, sums.tops_are, sums.words_are) (granted d₁ (not-false b h₁)) in
               let g : Pieces q (length (parts_dwords sums.parts)) = rw sums.dwords_are p in
               let n₁ : y ≡ length (dwords (pieces (token_of_row q) (head_of_row q) sums.parts)) = ey ∙ sym (row_at l o 1 (lit< tt)) ∙ g.dwords_are ∙ sym (size q place r w sums.parts) in
-              rw (to-pieces, confirmed q place r w sums.parts g z (row_length l o h)) (λ i. Is (sym sums.rows_are i) (n₁ i))
+              rw (to_pieces, confirmed q place r w sums.parts g z (row_length l o h)) (λ i. Is (sym sums.rows_are i) (n₁ i))
 
 -- ---- an unread instruction
 module _ (l : List ℕ) (o n c : ℕ) where
@@ -167,18 +167,18 @@ module _ (l : List ℕ) (o place : ℕ) (ws : List ℕ) (r w : ℕ) (h : o + 16 
   own_first : get_or own 0 0 ≡ get_or ws w 0
   own_first = get_or-drop w ws 0 0 ∙ ap (λ (k : ℕ). get_or ws k 0) (add-zero w)
 
-  own-next : drop 1 own ≡ drop (suc w) ws
-  own-next = let z : w + 1 ≡ suc w = omega arith in drop-drop 1 w ws ∙ ap (λ (k : ℕ). drop k ws) z
+  own_next : drop 1 own ≡ drop (suc w) ws
+  own_next = let z : w + 1 ≡ suc w = omega arith in drop-drop 1 w ws ∙ ap (λ (k : ℕ). drop k ws) z
 
   pub no_words : length ws - w ≡ 0 → Not ≡ walked_instruction answer
   no_words e = rw (unread_not row place r w own (λ k z b p. absurd (let f : ⊥ = omega (arith, own_length) in f)))
 
   module _ (k : length ws - w ≡ 0 → ⊥) (n : ℕ) (en : n ≡ length_of (get_or ws w 0) (drop (suc w) ws)) where
-    own-size : n ≡ length_of (at 0 own) (drop 1 own)
-    own-size = rw (own_first, own-next) en
+    own_size : n ≡ length_of (at 0 own) (drop 1 own)
+    own_size = rw (own_first, own_next) en
 
     pub other_length : (n ≡ length ws - w → ⊥) → Not ≡ walked_instruction answer
-    other_length f = rw (unread_not row place r w own (λ k z b p. f (own-size ∙ z ∙ own_length)))
+    other_length f = rw (unread_not row place r w own (λ k z b p. f (own_size ∙ z ∙ own_length)))
 
     module _ (h₁ : n ≡ length ws - w) {b : Bool} (d : Decides (Bare row (length ws - w) (get_or ws w 0 % 2048)) b) where
       pub not_bare : not b ≡ true → Not ≡ walked_instruction answer
@@ -194,4 +194,4 @@ module _ (l : List ℕ) (o place : ℕ) (ws : List ℕ) (r w : ℕ) (h : o + 16 
         walks_unread f =
             let u : Bare row (length own) (code_of own) = rw (own_length, own_first) (granted d (not-false b h₂)) in
             let p : Placed row place 0 r 0 w (length own) = rw own_length (granted d₁ f) in
-            rw (read_not row place r w own (omega (arith, own_length, k)) (sym own-size ∙ h₁ ∙ sym own_length) u p (row_length l o h)) (λ i. Is 0 (sym own_length i))
+            rw (read_not row place r w own (omega (arith, own_length, k)) (sym own_size ∙ h₁ ∙ sym own_length) u p (row_length l o h)) (λ i. Is 0 (sym own_length i))

@@ -16,19 +16,19 @@ confirm_words n b rs ws r w = cond (leb n (length ws) && b) (just (plain (take n
 
 module _ (model51 : Bool) where
   -- an item, from operand rows and the words that are left of its instruction's
-  unfoldable pub confirmItem : Item → Confirmer
-  confirmItem o = confirm 64
-  confirmItem d = confirm_words 1 true
-  confirmItem small = λ rs ws. confirm_words 1 (ltb (at 0 ws) 65_536) rs ws
-  confirmItem s = confirm_words (cond model51 1 0) true
-  confirmItem tail = λ rs ws. confirm_words (length ws) true rs ws
-  confirmItem (list b) = λ rs ws. confirm_words (1 + at 0 ws % 2 ^ b) true rs ws
+  unfoldable pub confirm_item : Item → Confirmer
+  confirm_item o = confirm 64
+  confirm_item d = confirm_words 1 true
+  confirm_item small = λ rs ws. confirm_words 1 (ltb (at 0 ws) 65_536) rs ws
+  confirm_item s = confirm_words (cond model51 1 0) true
+  confirm_item tail = λ rs ws. confirm_words (length ws) true rs ws
+  confirm_item (list b) = λ rs ws. confirm_words (1 + at 0 ws % 2 ^ b) true rs ws
 
-  unfoldable pub confirmItems : List Item → Confirms (List Tree)
-  confirmItems [] rs ws r w = just []
-  confirmItems (i ∷ l) rs ws r w = do
-    x ← confirmItem i rs ws r w
-    ps ← behind x (confirmItems l) rs ws r w
+  unfoldable pub confirm_items : List Item → Confirms (List Tree)
+  confirm_items [] rs ws r w = just []
+  confirm_items (i ∷ l) rs ws r w = do
+    x ← confirm_item i rs ws r w
+    ps ← behind x (confirm_items l) rs ws r w
     just (x ∷ ps)
 
 -- dwords of which each but the last says that another follows
@@ -49,7 +49,7 @@ confirm_pieces q place r w t e ps =
 
 unfoldable pub confirm_known : Bool → List ℕ → ℕ → Confirms Instruction
 confirm_known model51 q place rs ws r w = do
-  ps ← confirmItems model51 (layout (at 2 q)).items rs ws r w
+  ps ← confirm_items model51 (layout (at 2 q)).items rs ws r w
   confirm_pieces q place r w (token_of_row q) (head_of_row q) ps
 
 -- the words of an unread instruction are its dwords

@@ -12,7 +12,7 @@ use Rattle.format.specs.Encoder.{at, chain_of, token_of_row, head_of_row}
 use Rattle.instruction_fields.specs.Fields.{classed}
 use Rattle.instruction_fields.specs.declared.Place.{Place}
 use Rattle.instruction_fields.specs.declared.Place.TheVariants.{At, Off}
-use Rattle.instruction_deep.specs.Confirm.{confirmItems, linked, head_taken}
+use Rattle.instruction_deep.specs.Confirm.{confirm_items, linked, head_taken}
 use Rattle.instruction_deep.specs.declared.Walked.{Walked}
 use Rattle.instruction_deep.specs.declared.Walked.TheVariants.{Is, Not}
 use Rattle.instruction_deep.specs.declared.Parts.{Parts}
@@ -38,7 +38,7 @@ total (just ps) = sum (parts_rows ps) (length (parts_words ps)) (length (op.part
 
 -- items from row r and word w of two pools on
 unfoldable pub sum_at : Bool → List Item → List ℕ → List ℕ → ℕ → ℕ → Sum
-sum_at m l rs ws r w = total (confirmItems m l (drop (16 * r) rs) (drop w ws) r w)
+sum_at m l rs ws r w = total (confirm_items m l (drop (16 * r) rs) (drop w ws) r w)
 
 -- items of k operands stand between two places, whatever items follow; or not
 pub data Takes (m : Bool) (items : List Item) (k : ℕ) (rs ws : List ℕ) (r w : ℕ) : Parts → Type 0 where
@@ -103,7 +103,7 @@ pub record Headed (q : List ℕ) (x : Layout) (t : ℕ) (e : List ℕ) : Type 0 
 -- it holds, and so many dwords stand there; or it does not
 pub data Counts (P : Type 0) (n : ℕ) : Place → Type 0 where
   are : n ≤ 3 → P → Counts P n (At n)
-  none-are : (P → ⊥) → Counts P n Off
+  none_are : (P → ⊥) → Counts P n Off
 
 -- words 4 to 7 of a row are these fields
 pub record Fielded (q : List ℕ) (f : Fields) : Type 0 where

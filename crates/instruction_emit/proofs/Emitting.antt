@@ -30,7 +30,7 @@ use Rattle.instruction_emit.specs.declared.Place.{Place}
 use Rattle.instruction_emit.specs.Emits.{Is, Ready, Emitted, Fits, head_of, HeadReady, Bare, before, lead_of, front_of, FrontReady, Fronted, confirm_run, run_at, trees_in, RunReady, Ran, rest, PartsReady, Parted}
 use Rattle.instruction_emit.proofs.Heads.{plain_room, headed_plain, is_one, bare_low, bare_bits, bare_53, bare_120}
 use Rattle.instruction_emit.proofs.Items.{every_is}
-use Rattle.instruction_emit.proofs.Opened.{Known, Opened, words-alone, known, opened}
+use Rattle.instruction_emit.proofs.Opened.{Known, Opened, words_alone, known, opened}
 
 -- ---- operands, one after the other: the first, and those behind it
 record First (n : ℕ) (rs ws : List ℕ) (r w : ℕ) (xs : List Tree) : Type 0 where
@@ -203,19 +203,19 @@ module _ (is : List ℕ) (first : ℕ) (ws : List ℕ) (word place : ℕ) (out :
 
   -- a code and a length
   module _ {b : Bool} (d : Bare Q b) (hb : b ≡ true) where
-    bare-fits : Fits Q
-    bare-fits = g.fits (is_one is first d hb)
+    bare_fits : Fits Q
+    bare_fits = g.fits (is_one is first d hb)
 
     pub bare_token_lem : N 2 + N 1 * 16777216 < 2 ^ 32
-    bare_token_lem = plain_room is first (N 2) (bare_low is first d hb) (bare_bits is first d hb) (bare_53 is first d hb bare-fits) bare-fits
+    bare_token_lem = plain_room is first (N 2) (bare_low is first d hb) (bare_bits is first d hb) (bare_53 is first d hb bare_fits) bare_fits
 
     pub bare_room : 4 * (place + 1) ≤ length out
     bare_room = omega (arith, g.room (is_one is first d hb))
 
     pub bare_fronted : {out₁ : List ℕ} → out₁ ≡ put (4 * place) (bytes_of ((N 2 + N 1 * 16777216) ∷ [])) out → Fronted Q (drop word ws) word place out (record { word = word; at = place + 1 }) out₁
     bare_fronted e =
-        front_bare Q (drop word ws) word place out (is_one is first d hb) (bare_120 is first d hb bare-fits)
-        (headed_plain is first (N 2) (bare_low is first d hb) (bare_bits is first d hb) (bare_53 is first d hb bare-fits) place out e)
+        front_bare Q (drop word ws) word place out (is_one is first d hb) (bare_120 is first d hb bare_fits)
+        (headed_plain is first (N 2) (bare_low is first d hb) (bare_bits is first d hb) (bare_53 is first d hb bare_fits) place out e)
 
   pub alone_fronted : N 3 ≡ 0 → Fronted Q (drop word ws) word place out (record { word = word; at = place }) out
   alone_fronted e = front_none Q (drop word ws) word place out (row_at is first 3 (lit< tt) ∙ e)
@@ -250,30 +250,30 @@ module _ (count place operand word : ℕ) (rs ws out : List ℕ) (h : word ≤ l
   abbrev o : Option (List Tree)
   o = run_at count rs ws operand word
 
-  there-are : (word + length (parts_words ready.trees) ≤ length ws) × (4 * (place + (length (op.parts_dwords ready.trees) + (length ws - (word + length (parts_words ready.trees))))) ≤ length out)
-  there-are = (
+  there_are : (word + length (parts_words ready.trees) ≤ length ws) × (4 * (place + (length (op.parts_dwords ready.trees) + (length ws - (word + length (parts_words ready.trees))))) ≤ length out)
+  there_are = (
     omega (arith, ready.words_there, length-drop word ws),
     omega (arith, ready.words_there, length-drop word ws, ready.room, rest_length (drop word ws) ready.trees ready.words_there),
   )
 
   pub run_ready : RunReady o place (length out)
-  run_ready = record { trees = ready.trees; is = ready.is; room = omega (arith, there-are.1) }
+  run_ready = record { trees = ready.trees; is = ready.is; room = omega (arith, there_are.1) }
 
   module _ {x : operand-ends.Ends} {out₁ : List ℕ} (r : Ran o operand word place out x out₁) where
-    trees-are : trees_in o ≡ ready.trees
-    trees-are = ap trees_in ready.is
+    trees_are : trees_in o ≡ ready.trees
+    trees_are = ap trees_in ready.is
 
     word_is : x.word ≡ word + length (parts_words ready.trees)
-    word_is = omega (arith, r.word_is, ap (λ (l : List Tree). length (parts_words l)) trees-are)
+    word_is = omega (arith, r.word_is, ap (λ (l : List Tree). length (parts_words l)) trees_are)
 
     at_is : x.at ≡ place + length (op.parts_dwords ready.trees)
-    at_is = omega (arith, r.at_is, ap (λ (l : List Tree). length (op.parts_dwords l)) trees-are)
+    at_is = omega (arith, r.at_is, ap (λ (l : List Tree). length (op.parts_dwords l)) trees_are)
 
     pub within : x.word ≤ length ws
-    within = omega (arith, word_is, there-are.0)
+    within = omega (arith, word_is, there_are.0)
 
     pub left_ready : length out₁ ≡ length out → (length ws - x.word ≤ length ws - x.word) × (4 * (x.at + (length ws - x.word)) ≤ length out₁)
-    left_ready n = (omega arith, omega (arith, word_is, at_is, there-are.1))
+    left_ready n = (omega arith, omega (arith, word_is, at_is, there_are.1))
 
     left_is : take (length ws - x.word) (drop x.word ws) ≡ drop (length (parts_words ready.trees)) (drop word ws)
     left_is = take_all (length ws - x.word) (drop x.word ws) (omega (arith, length-drop x.word ws)) ∙ ap (λ (n : ℕ). drop n ws) word_is ∙ sym (drop-drop (length (parts_words ready.trees)) word ws)
@@ -284,13 +284,13 @@ module _ (count place operand word : ℕ) (rs ws out : List ℕ) (h : word ≤ l
         let t : List Tree = ready.trees in
         let b : List ℕ = op.parts_dwords t in
         let l : List ℕ = drop (length (parts_words t)) (drop word ws) in
-        let f₁ : out₁ ≡ put (4 * place) (bytes_of b) out = rw trees-are at r.output_is in
+        let f₁ : out₁ ≡ put (4 * place) (bytes_of b) out = rw trees_are at r.output_is in
         let f₂ : out₂ ≡ put (4 * x.at) (bytes_of l) out₁ = rw left_is at e₂ in
-        let f : out₂ ≡ put (4 * place) (bytes_of (b ++ l)) out = dwords_more place x.at b l out (omega (arith, there-are.1)) at_is f₁ f₂ in
+        let f : out₂ ≡ put (4 * place) (bytes_of (b ++ l)) out = dwords_more place x.at b l out (omega (arith, there_are.1)) at_is f₁ f₂ in
         record {
-          output_is = f ∙ ap (λ (y : List Tree). put (4 * place) (bytes_of (rest (drop word ws) y)) out) (sym trees-are);
+          output_is = f ∙ ap (λ (y : List Tree). put (4 * place) (bytes_of (rest (drop word ws) y)) out) (sym trees_are);
           operand_is = r.first_is;
-          at_is = omega (arith, at_is, word_is, there-are.0, length-drop word ws, rest_length (drop word ws) t ready.words_there, ap (λ (y : List Tree). length (rest (drop word ws) y)) trees-are);
+          at_is = omega (arith, at_is, word_is, there_are.0, length-drop word ws, rest_length (drop word ws) t ready.words_there, ap (λ (y : List Tree). length (rest (drop word ws) y)) trees_are);
         }
 
 -- ---- all of an instruction
@@ -305,23 +305,23 @@ module _ (is : List ℕ) (first : ℕ) (rs ws : List ℕ) (operand word place : 
   record Laid (i : Instruction) : Type 0 where
     trees : List Tree
     run : run_at (number 13) rs ws operand (word + lead_of q) ≡ just trees
-    lead-there : word + lead_of q ≤ length ws
+    lead_there : word + lead_of q ≤ length ws
     words_there : length (parts_words trees) ≤ length (drop (word + lead_of q) ws)
     dwords_are : dwords i ≡ front_of q (drop word ws) ++ rest (drop (word + lead_of q) ws) trees
     rows_are : parts_rows (parts i) ≡ parts_rows trees
 
-  laid-words : at 3 q ≡ 0 → at 13 q ≡ 0 → Laid (unread (drop word ws))
+  laid_words : at 3 q ≡ 0 → at 13 q ≡ 0 → Laid (unread (drop word ws))
   unfolding confirm_run dwords parts parts_rows parts_words tree_rows op.parts_dwords
-  laid-words e n =
+  laid_words e n =
       let c : number 13 ≡ 0 = sym (row_at is first 13 (lit< tt)) ∙ n in
       let k : lead_of q ≡ 0 = rw (eq-eqb (at 3 q) 0 e) in
       let w : word + lead_of q ≡ word = omega (arith, k) in
       let f : front_of q (drop word ws) ≡ [] = rw (eq-eqb (at 3 q) 0 e) in
-      record { trees = []; run = rw c; lead-there = rw w h; words_there = omega arith; dwords_are = rw (f, w); rows_are = omega arith }
+      record { trees = []; run = rw c; lead_there = rw w h; words_there = omega arith; dwords_are = rw (f, w); rows_are = omega arith }
 
-  laid-pieces : (ps : List Tree) → Known q (drop operand rs) (drop word ws) (operand / 16) word ps → Laid (pieces (token_of_row q) (head_of_row q) ps)
+  laid_pieces : (ps : List Tree) → Known q (drop operand rs) (drop word ws) (operand / 16) word ps → Laid (pieces (token_of_row q) (head_of_row q) ps)
   unfolding dwords parts
-  laid-pieces ps e =
+  laid_pieces ps e =
       let k : ℕ = before (at 2 q) in
       let a = e.around in
       let c : top_level ps ≡ number 13 = sym e.count ∙ row_at is first 13 (lit< tt) in
@@ -333,15 +333,15 @@ module _ (is : List ℕ) (first : ℕ) (rs ws : List ℕ) (operand word place : 
       record {
         trees = a.trees;
         run = rw z (rw (c, n) at a.run);
-        lead-there = omega (arith, z, a.words_there, length-drop word ws);
+        lead_there = omega (arith, z, a.words_there, length-drop word ws);
         words_there = omega (arith, z, a.words_there, length-drop word ws, length-drop (word + lead_of q) ws);
         dwords_are = rw (f, z) (ap (λ (l : List ℕ). head_of q ++ l) (a.dwords_are ∙ ap (λ (l : List ℕ). take k (drop word ws) ++ (op.parts_dwords a.trees ++ l)) m) ∙ sym (append_assoc (head_of q) (take k (drop word ws)) (rest (drop (word + k) ws) a.trees)));
         rows_are = a.rows_are;
       }
 
   laid : {i : Instruction} → Opened q (drop operand rs) (drop word ws) (operand / 16) word i → Laid i
-  laid (words-alone e n) = laid-words e n
-  laid (known {ps = ps} e) = laid-pieces ps e
+  laid (words_alone e n) = laid_words e n
+  laid (known {ps = ps} e) = laid_pieces ps e
 
   module _ (g : Ready q (drop operand rs) (drop word ws) operand word place (length out)) where
     open_is : (i : Instruction) → Is q (drop operand rs) (drop word ws) operand word i → Opened q (drop operand rs) (drop word ws) (operand / 16) word i
@@ -350,40 +350,40 @@ module _ (is : List ℕ) (first : ℕ) (rs ws : List ℕ) (operand word place : 
     all : Laid g.instruction
     all = laid (open_is g.instruction g.is)
 
-    all-length : length (dwords g.instruction) ≡ length (front_of q (drop word ws)) + length (rest (drop (word + lead_of q) ws) all.trees)
-    all-length = ap length all.dwords_are ∙ length-append (front_of q (drop word ws)) (rest (drop (word + lead_of q) ws) all.trees)
+    all_length : length (dwords g.instruction) ≡ length (front_of q (drop word ws)) + length (rest (drop (word + lead_of q) ws) all.trees)
+    all_length = ap length all.dwords_are ∙ length-append (front_of q (drop word ws)) (rest (drop (word + lead_of q) ws) all.trees)
 
     fits_of : {i : Instruction} → Opened q (drop operand rs) (drop word ws) (operand / 16) word i → (at 3 q ≡ 0 → ⊥) → Fits q
-    fits_of (words-alone e n) z = absurd (z e)
+    fits_of (words_alone e n) z = absurd (z e)
     fits_of (known e) z = e.fits
 
     -- a row that was read
     module _ (z : at 3 q ≡ 0 → ⊥) where
-      lead-within : word + before (at 2 q) ≤ length ws
-      lead-within = rw (ne_eqb (at 3 q) 0 z) at all.lead-there
+      lead_within : word + before (at 2 q) ≤ length ws
+      lead_within = rw (ne_eqb (at 3 q) 0 z) at all.lead_there
 
       front_length : length (front_of q (drop word ws)) ≡ length (head_of q) + before (at 2 q)
       front_length =
-          let t = length-take-le (before (at 2 q)) (drop word ws) (omega (arith, lead-within, length-drop word ws)) in
+          let t = length-take-le (before (at 2 q)) (drop word ws) (omega (arith, lead_within, length-drop word ws)) in
           rw (ne_eqb (at 3 q) 0 z) (length-append (head_of q) (take (before (at 2 q)) (drop word ws)) ∙ ap (λ (j : ℕ). length (head_of q) + j) t)
 
     pub front_ready : FrontReady q (length ws) word place (length out)
     front_ready = record {
       fits = fits_of (open_is g.instruction g.is);
-      words_there = lead-within;
-      room = λ z. omega (arith, g.room, all-length, front_length z);
+      words_there = lead_within;
+      room = λ z. omega (arith, g.room, all_length, front_length z);
     }
 
     module _ {f : Place} {out₁ : List ℕ} (d : Fronted q (drop word ws) word place out f out₁) where
       pub front_within : f.word ≤ length ws
-      front_within = omega (arith, d.word_is, all.lead-there)
+      front_within = omega (arith, d.word_is, all.lead_there)
 
       pub parts_ready : length out₁ ≡ length out → PartsReady (run_at (number 13) rs ws operand f.word) (drop f.word ws) f.at (length out₁)
       parts_ready n = rw d.word_is (record {
         trees = all.trees;
         is = all.run;
         words_there = all.words_there;
-        room = omega (arith, g.room, all-length, d.headed.next_is);
+        room = omega (arith, g.room, all_length, d.headed.next_is);
       })
 
       pub parts_emitted : {ends : Ends} {out₂ : List ℕ} → Parted (run_at (number 13) rs ws operand f.word) (drop f.word ws) operand f.at out₁ ends out₂ → Emitted q (drop operand rs) (drop word ws) operand word place out ends out₂
@@ -395,7 +395,7 @@ module _ (is : List ℕ) (first : ℕ) (rs ws : List ℕ) (operand word place : 
           let t : trees_in (run_at (number 13) rs ws operand (word + lead_of q)) ≡ b.trees = ap trees_in b.run in
           let e : out₂ ≡ put (4 * f.at) (bytes_of l) out₁ = rw t at p.output_is in
           record {
-            output_is = dwords_more place f.at x l out (omega (arith, g.room, all-length)) d.headed.next_is d.headed.output_is e ∙ ap (λ (k : List ℕ). put (4 * place) (bytes_of k) out) (sym b.dwords_are);
+            output_is = dwords_more place f.at x l out (omega (arith, g.room, all_length)) d.headed.next_is d.headed.output_is e ∙ ap (λ (k : List ℕ). put (4 * place) (bytes_of k) out) (sym b.dwords_are);
             operand_is = omega (arith, p.operand_is, ap parts_rows t, b.rows_are);
             at_is = omega (arith, p.at_is, d.headed.next_is, ap (λ (k : List Tree). length (rest (drop (word + lead_of q) ws) k)) t, ap length b.dwords_are, length-append x l);
           }

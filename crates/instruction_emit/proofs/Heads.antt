@@ -112,25 +112,25 @@ module _ (q : List ℕ) where
   abbrev top : ℕ
   top = cond (ltb 0 (at 8 q)) 1 0 * 2 ^ 31
 
-  token-short : sized_row q ≡ false → token_of_row q ≡ low_of q + at 1 q * 2 ^ 24 + top
+  token_short : sized_row q ≡ false → token_of_row q ≡ low_of q + at 1 q * 2 ^ 24 + top
   unfolding token_of_row
-  token-short h = rw h
+  token_short h = rw h
 
-  token-long : sized_row q ≡ true → token_of_row q ≡ low_of q + top
+  token_long : sized_row q ≡ true → token_of_row q ≡ low_of q + top
   unfolding token_of_row
-  token-long h = rw h (omega arith)
+  token_long h = rw h (omega arith)
 
-  token-top : low_of q + top ≤ token_of_row q
-  token-top = go (sized_row q) refl
+  token_top : low_of q + top ≤ token_of_row q
+  token_top = go (sized_row q) refl
     where
       go : (b : Bool) → sized_row q ≡ b → low_of q + top ≤ token_of_row q
-      go true h = omega (arith, token-long h)
-      go false h = omega (arith, token-short h)
+      go true h = omega (arith, token_long h)
+      go false h = omega (arith, token_short h)
 
   -- what stands after it
-  after-long : sized_row q ≡ true → head_of_row q ≡ at 1 q ∷ []
+  after_long : sized_row q ≡ true → head_of_row q ≡ at 1 q ∷ []
   unfolding head_of_row
-  after-long h = rw h
+  after_long h = rw h
 
   after_none : sized_row q ≡ false → at 8 q ≡ 0 → head_of_row q ≡ []
   unfolding head_of_row chain_of
@@ -141,13 +141,13 @@ module _ (q : List ℕ) where
       either false = refl
 
   module _ (h : sized_row q ≡ false) (k : at 3 q ≡ (layout (at 2 q)).kind) where
-    after-unchained : 3 ≤ at 3 q → head_of_row q ≡ []
+    after_unchained : 3 ≤ at 3 q → head_of_row q ≡ []
     unfolding head_of_row
-    after-unchained z = rw (h, ← k, le-ltb (at 3 q) 3 z)
+    after_unchained z = rw (h, ← k, le-ltb (at 3 q) 3 z)
 
-    after-chain : at 3 q < 3 → head_of_row q ≡ chain_of (at 8 q) (at 9 q) (at 10 q) (at 11 q)
+    after_chain : at 3 q < 3 → head_of_row q ≡ chain_of (at 8 q) (at 9 q) (at 10 q) (at 11 q)
     unfolding head_of_row
-    after-chain z = rw (h, ← k, lt-ltb (at 3 q) 3 z)
+    after_chain z = rw (h, ← k, lt-ltb (at 3 q) 3 z)
 
 -- ---- the row at a place
 module _ (l : List ℕ) (first : ℕ) where
@@ -163,26 +163,26 @@ module _ (l : List ℕ) (first : ℕ) where
   pub pack_room : low_of q < 2 ^ 32 → packed (number 2) (number 7) (number 4) (number 5) (number 6) < 2 ^ 32
   pack_room h = rw low_at h
 
-  sized-at : sized_by (number 2) (number 8) ≡ sized_row q
+  sized_at : sized_by (number 2) (number 8) ≡ sized_row q
   unfolding sized_row
-  sized-at = sym (λ i. sized_by (row_at l first 2 (lit< tt) i) (row_at l first 8 (lit< tt) i))
+  sized_at = sym (λ i. sized_by (row_at l first 2 (lit< tt) i) (row_at l first 8 (lit< tt) i))
 
-  top-at : cond (ltb 0 (number 8)) 1 0 * 2 ^ 31 ≡ top q
-  top-at = sym (ap (λ (n : ℕ). cond (ltb 0 n) 1 0 * 2 ^ 31) (row_at l first 8 (lit< tt)))
+  top_at : cond (ltb 0 (number 8)) 1 0 * 2 ^ 31 ≡ top q
+  top_at = sym (ap (λ (n : ℕ). cond (ltb 0 n) 1 0 * 2 ^ 31) (row_at l first 8 (lit< tt)))
 
-  chain-at : chain_of (number 8) (number 9) (number 10) (number 11) ≡ chain_of (at 8 q) (at 9 q) (at 10 q) (at 11 q)
-  chain-at = sym (λ i. chain_of (row_at l first 8 (lit< tt) i) (row_at l first 9 (lit< tt) i) (row_at l first 10 (lit< tt) i) (row_at l first 11 (lit< tt) i))
+  chain_at : chain_of (number 8) (number 9) (number 10) (number 11) ≡ chain_of (at 8 q) (at 9 q) (at 10 q) (at 11 q)
+  chain_at = sym (λ i. chain_of (row_at l first 8 (lit< tt) i) (row_at l first 9 (lit< tt) i) (row_at l first 10 (lit< tt) i) (row_at l first 11 (lit< tt) i))
 
   pub low_room : Fits q → low_of q < 2 ^ 32
-  low_room f = omega (arith, token-top q, f.token_fits)
+  low_room f = omega (arith, token_top q, f.token_fits)
 
   -- a token that nothing stands after
   module _ (t : ℕ) (et : t ≡ low_of q) (hn : number 8 ≡ 0) (hc : number 2 ≡ 53 → ⊥) where
-    unsized-plain : sized_row q ≡ false
-    unsized-plain = sym sized-at ∙ sym (sized_none (number 2) (number 8) hc hn)
+    unsized_plain : sized_row q ≡ false
+    unsized_plain = sym sized_at ∙ sym (sized_none (number 2) (number 8) hc hn)
 
     pub plain_token_lem : t + number 1 * 16777216 ≡ token_of_row q
-    plain_token_lem = omega (arith, token-short q unsized-plain, row_at l first 1 (lit< tt), top-at, follows_none (number 8) hn)
+    plain_token_lem = omega (arith, token_short q unsized_plain, row_at l first 1 (lit< tt), top_at, follows_none (number 8) hn)
 
     pub plain_room : Fits q → t + number 1 * 16777216 < 2 ^ 32
     plain_room f = omega (arith, plain_token_lem, f.token_fits)
@@ -190,72 +190,72 @@ module _ (l : List ℕ) (first : ℕ) where
     pub headed_plain : (place : ℕ) (out : List ℕ) {out₁ : List ℕ} → out₁ ≡ put (4 * place) (bytes_of ((t + number 1 * 16777216) ∷ [])) out → Headed (head_of q) place out (place + 1) out₁
     headed_plain place out e =
         let z : at 8 q ≡ 0 = row_at l first 8 (lit< tt) ∙ hn in
-        rw (← plain_token_lem, after_none q unsized-plain z) (record { next_is = refl; output_is = e })
+        rw (← plain_token_lem, after_none q unsized_plain z) (record { next_is = refl; output_is = e })
 
   -- any other, whose bit 31 is added
   module _ (low f : ℕ) (el : low ≡ low_of q) (ef : f ≡ cond (ltb 0 (number 8)) 1 0 * 2 ^ 31) where
     pub bit_room : Fits q → low + f < 2 ^ 32
-    bit_room g = omega (arith, token-top q, g.token_fits, top-at)
+    bit_room g = omega (arith, token_top q, g.token_fits, top_at)
 
     module _ (b : Bool) (eb : b ≡ sized_by (number 2) (number 8)) where
       module _ (hb : b ≡ true) where
-        long-row : sized_row q ≡ true
-        long-row = sym sized-at ∙ sym eb ∙ hb
+        long_row : sized_row q ≡ true
+        long_row = sym sized_at ∙ sym eb ∙ hb
 
-        long-dwords : head_of q ≡ (low + f) ∷ number 1 ∷ []
-        long-dwords =
-            let e₁ : token_of_row q ≡ low + f = omega (arith, token-long q long-row, top-at) in
-            rw (e₁, after-long q long-row, row_at l first 1 (lit< tt))
+        long_dwords : head_of q ≡ (low + f) ∷ number 1 ∷ []
+        long_dwords =
+            let e₁ : token_of_row q ≡ low + f = omega (arith, token_long q long_row, top_at) in
+            rw (e₁, after_long q long_row, row_at l first 1 (lit< tt))
 
         pub long_two : length (head_of q) ≡ 2
-        long_two = ap length long-dwords
+        long_two = ap length long_dwords
 
         pub headed_long : (place : ℕ) (out : List ℕ) {out₁ out₂ : List ℕ} → HeadReady q place (length out) → out₁ ≡ put (4 * place) (bytes_of ((low + f) ∷ [])) out → out₂ ≡ put (4 * (place + 1)) (bytes_of (number 1 ∷ [])) out₁ → Headed (head_of q) place out (place + 2) out₂
         headed_long place out g e₁ e₂ =
             let n = g.room in
-            rw long-dwords (record { next_is = refl; output_is = dwords_more place (place + 1) ((low + f) ∷ []) (number 1 ∷ []) out (omega (arith, n, long_two)) refl e₁ e₂ })
+            rw long_dwords (record { next_is = refl; output_is = dwords_more place (place + 1) ((low + f) ∷ []) (number 1 ∷ []) out (omega (arith, n, long_two)) refl e₁ e₂ })
 
       module _ (hb : b ≡ false) where
         short_row : sized_row q ≡ false
-        short_row = sym sized-at ∙ sym eb ∙ hb
+        short_row = sym sized_at ∙ sym eb ∙ hb
 
-        short-token : low + f + number 1 * 16777216 ≡ token_of_row q
-        short-token = omega (arith, token-short q short_row, row_at l first 1 (lit< tt), top-at)
+        short_token_lem : low + f + number 1 * 16777216 ≡ token_of_row q
+        short_token_lem = omega (arith, token_short q short_row, row_at l first 1 (lit< tt), top_at)
 
         pub short_room : Fits q → low + f + number 1 * 16777216 < 2 ^ 32
-        short_room g = omega (arith, short-token, g.token_fits)
+        short_room g = omega (arith, short_token_lem, g.token_fits)
 
         module _ (place : ℕ) (out : List ℕ) (g : HeadReady q place (length out)) {out₁ : List ℕ} (e₁ : out₁ ≡ put (4 * place) (bytes_of ((low + f + number 1 * 16777216) ∷ [])) out) where
           pub headed_unchained : 3 ≤ number 3 → Headed (head_of q) place out (place + 1) out₁
           headed_unchained h =
               let k : 3 ≤ at 3 q = omega (arith, row_at l first 3 (lit< tt)) in
-              rw (← short-token, after-unchained q short_row g.fits.kind_is k) (record { next_is = refl; output_is = e₁ })
+              rw (← short_token_lem, after_unchained q short_row g.fits.kind_is k) (record { next_is = refl; output_is = e₁ })
 
           module _ (h : number 3 < 3) where
-            chain-dwords : head_of q ≡ (low + f + number 1 * 16777216) ∷ chain_of (number 8) (number 9) (number 10) (number 11)
-            chain-dwords =
+            chain_dwords : head_of q ≡ (low + f + number 1 * 16777216) ∷ chain_of (number 8) (number 9) (number 10) (number 11)
+            chain_dwords =
                 let k : at 3 q < 3 = omega (arith, row_at l first 3 (lit< tt)) in
-                rw (short-token, after-chain q short_row g.fits.kind_is k, chain-at)
+                rw (short_token_lem, after_chain q short_row g.fits.kind_is k, chain_at)
 
             pub chain_room : length out₁ ≡ length out → (number 8 < 8) × (number 9 < 2 ^ 12) × (number 10 < 2 ^ 31) × (4 * (place + 1 + length (chain_of (number 8) (number 9) (number 10) (number 11))) ≤ length out₁)
             chain_room n = (
               omega (arith, g.fits.bits_fit short_row, row_at l first 8 (lit< tt)),
               omega (arith, g.fits.offsets_fit, row_at l first 9 (lit< tt)),
               omega (arith, g.fits.second_fits, row_at l first 10 (lit< tt)),
-              omega (arith, g.room, ap length chain-dwords),
+              omega (arith, g.room, ap length chain_dwords),
             )
 
             pub headed_chain : {end : ℕ} {out₂ : List ℕ} → Headed (chain_of (number 8) (number 9) (number 10) (number 11)) (place + 1) out₁ end out₂ → Headed (head_of q) place out end out₂
             headed_chain {end} {out₂} k =
                 let t : ℕ = low + f + number 1 * 16777216 in
-                rw chain-dwords (headed_more (t ∷ []) (chain_of (number 8) (number 9) (number 10) (number 11)) place (place + 1) end out out₁ out₂ (omega (arith, g.room)) (record { next_is = refl; output_is = e₁ }) k)
+                rw chain_dwords (headed_more (t ∷ []) (chain_of (number 8) (number 9) (number 10) (number 11)) place (place + 1) end out out₁ out₂ (omega (arith, g.room)) (record { next_is = refl; output_is = e₁ }) k)
 
   -- a row of kind 1 whose token has only a code and a length
   joined : (a b : ℕ) → a + b * 2 ^ 32 ≡ 0 → (a ≡ 0) × (b ≡ 0)
   joined a b h = (omega arith, omega arith)
 
-  joined-one : (a b : ℕ) → a + b * 2 ^ 32 ≡ 1 → (a ≡ 1) × (b ≡ 0)
-  joined-one a b h = (omega arith, omega arith)
+  joined_one : (a b : ℕ) → a + b * 2 ^ 32 ≡ 1 → (a ≡ 1) × (b ≡ 0)
+  joined_one a b h = (omega arith, omega arith)
 
   pub not_bare : Bare q false
   not_bare = record { kind_one = λ z. impossible (cc); no_flags = λ z. impossible (cc); nothing_after = λ z. impossible (cc) }
@@ -265,7 +265,7 @@ module _ (l : List ℕ) (first : ℕ) where
       let x = joined (number 7) (number 8) (sym ea ∙ za) in
       let y = joined (number 5) (number 6) (sym eb ∙ zb) in
       record {
-        kind_one = λ z. let u = joined-one (number 3) (number 4) (sym ec ∙ eqb-true c 1 z) in (row_at l first 3 (lit< tt) ∙ u.0, row_at l first 4 (lit< tt) ∙ u.1);
+        kind_one = λ z. let u = joined_one (number 3) (number 4) (sym ec ∙ eqb-true c 1 z) in (row_at l first 3 (lit< tt) ∙ u.0, row_at l first 4 (lit< tt) ∙ u.1);
         no_flags = λ z. (row_at l first 5 (lit< tt) ∙ y.0, row_at l first 6 (lit< tt) ∙ y.1);
         nothing_after = λ z. (row_at l first 7 (lit< tt) ∙ x.0, row_at l first 8 (lit< tt) ∙ x.1);
       }

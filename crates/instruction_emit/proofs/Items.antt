@@ -19,7 +19,7 @@ use Rattle.format.specs.Encoder.{at, extension_of, operand_dword, same}
 use Rattle.format.proofs.Dwords.{impossible, both}
 use Rattle.operand_deep.specs.Confirm.{Confirmer, behind, confirm_index, confirmed, confirm_immediates, confirm_indices, confirm_front, confirm}
 use Rattle.operand_deep.proofs.Every.{Every, unmet, met, every_then, every_if}
-use Rattle.instruction_deep.specs.Confirm.{confirm_words, confirmItem, confirmItems}
+use Rattle.instruction_deep.specs.Confirm.{confirm_words, confirm_item, confirm_items}
 use Rattle.instruction_emit.specs.Emits.{confirm_run, before}
 
 -- what there is, with its equation
@@ -102,19 +102,19 @@ unfolding op.parts_dwords parts_words parts_rows
 flat_more x ps f g = record { dwords_are = rw (f.dwords_are, g.dwords_are); no_rows = omega (arith, f.no_rows, g.no_rows); no_top = f.no_top ps ∙ g.no_top }
 
 module _ (m : Bool) where
-  then-flat : (i : Item) (l : List Item) (rs ws : List ℕ) (r w : ℕ) → Every Flat (confirmItem m i rs ws r w) → ((rs ws : List ℕ) (r w : ℕ) → Every AllFlat (confirmItems m l rs ws r w)) → Every AllFlat (confirmItems m (i ∷ l) rs ws r w)
-  unfolding confirmItems
-  then-flat i l rs ws r w f g = every_then f (λ x h. every_then (g _ _ _ _) (λ ps k. met (flat_more x ps h k)))
+  then_flat : (i : Item) (l : List Item) (rs ws : List ℕ) (r w : ℕ) → Every Flat (confirm_item m i rs ws r w) → ((rs ws : List ℕ) (r w : ℕ) → Every AllFlat (confirm_items m l rs ws r w)) → Every AllFlat (confirm_items m (i ∷ l) rs ws r w)
+  unfolding confirm_items
+  then_flat i l rs ws r w f g = every_then f (λ x h. every_then (g _ _ _ _) (λ ps k. met (flat_more x ps h k)))
 
-  items-flat : (l : List Item) → bare l ≡ true → (rs ws : List ℕ) (r w : ℕ) → Every AllFlat (confirmItems m l rs ws r w)
-  unfolding bare confirmItem
-  items-flat [] h rs ws r w = unfold confirmItems in met all_flat
-  items-flat (o ∷ l) h rs ws r w = impossible (cc)
-  items-flat (d ∷ l) h rs ws r w = then-flat d l rs ws r w (words_flat _ _ rs ws r w) (items-flat l h)
-  items-flat (small ∷ l) h rs ws r w = then-flat small l rs ws r w (words_flat _ _ rs ws r w) (items-flat l h)
-  items-flat (s ∷ l) h rs ws r w = then-flat s l rs ws r w (words_flat _ _ rs ws r w) (items-flat l h)
-  items-flat (tail ∷ l) h rs ws r w = then-flat tail l rs ws r w (words_flat _ _ rs ws r w) (items-flat l h)
-  items-flat (list b ∷ l) h rs ws r w = then-flat (list b) l rs ws r w (words_flat _ _ rs ws r w) (items-flat l h)
+  items_flat : (l : List Item) → bare l ≡ true → (rs ws : List ℕ) (r w : ℕ) → Every AllFlat (confirm_items m l rs ws r w)
+  unfolding bare confirm_item
+  items_flat [] h rs ws r w = unfold confirm_items in met all_flat
+  items_flat (o ∷ l) h rs ws r w = impossible (cc)
+  items_flat (d ∷ l) h rs ws r w = then_flat d l rs ws r w (words_flat _ _ rs ws r w) (items_flat l h)
+  items_flat (small ∷ l) h rs ws r w = then_flat small l rs ws r w (words_flat _ _ rs ws r w) (items_flat l h)
+  items_flat (s ∷ l) h rs ws r w = then_flat s l rs ws r w (words_flat _ _ rs ws r w) (items_flat l h)
+  items_flat (tail ∷ l) h rs ws r w = then_flat tail l rs ws r w (words_flat _ _ rs ws r w) (items_flat l h)
+  items_flat (list b ∷ l) h rs ws r w = then_flat (list b) l rs ws r w (words_flat _ _ rs ws r w) (items_flat l h)
 
 -- ---- operands in front of words
 unfoldable led : List Item → Bool
@@ -150,22 +150,22 @@ led_more rs ws r w x ps t e g = record {
 }
 
 module _ (m : Bool) where
-  bare-led : (l : List Item) → bare l ≡ true → (rs ws : List ℕ) (r w : ℕ) → Every (Led rs ws r w) (confirmItems m l rs ws r w)
-  bare-led l h rs ws r w = go (items-flat m l h rs ws r w)
+  bare_led : (l : List Item) → bare l ≡ true → (rs ws : List ℕ) (r w : ℕ) → Every (Led rs ws r w) (confirm_items m l rs ws r w)
+  bare_led l h rs ws r w = go (items_flat m l h rs ws r w)
     where
       go : {x : Option (List Tree)} → Every AllFlat x → Every (Led rs ws r w) x
       go unmet = unmet
       go (met {a = ps} f) = met (flat_led rs ws r w ps f)
 
-  items-led : (l : List Item) → led l ≡ true → (rs ws : List ℕ) (r w : ℕ) → Every (Led rs ws r w) (confirmItems m l rs ws r w)
-  unfolding led confirmItems confirmItem
-  items-led [] h rs ws r w = met (flat_led rs ws r w [] all_flat)
-  items-led (o ∷ l) h rs ws r w = every_then (every_with (operand_top 64 rs ws r w)) (λ x p. every_then (items-led l h _ _ _ _) (λ ps g. met (led_more rs ws r w x ps p.0 p.1 g)))
-  items-led (d ∷ l) h rs ws r w = bare-led (d ∷ l) (unfold bare in h) rs ws r w
-  items-led (small ∷ l) h rs ws r w = bare-led (small ∷ l) (unfold bare in h) rs ws r w
-  items-led (s ∷ l) h rs ws r w = bare-led (s ∷ l) (unfold bare in h) rs ws r w
-  items-led (tail ∷ l) h rs ws r w = bare-led (tail ∷ l) (unfold bare in h) rs ws r w
-  items-led (list b ∷ l) h rs ws r w = bare-led (list b ∷ l) (unfold bare in h) rs ws r w
+  items_led : (l : List Item) → led l ≡ true → (rs ws : List ℕ) (r w : ℕ) → Every (Led rs ws r w) (confirm_items m l rs ws r w)
+  unfolding led confirm_items confirm_item
+  items_led [] h rs ws r w = met (flat_led rs ws r w [] all_flat)
+  items_led (o ∷ l) h rs ws r w = every_then (every_with (operand_top 64 rs ws r w)) (λ x p. every_then (items_led l h _ _ _ _) (λ ps g. met (led_more rs ws r w x ps p.0 p.1 g)))
+  items_led (d ∷ l) h rs ws r w = bare_led (d ∷ l) (unfold bare in h) rs ws r w
+  items_led (small ∷ l) h rs ws r w = bare_led (small ∷ l) (unfold bare in h) rs ws r w
+  items_led (s ∷ l) h rs ws r w = bare_led (s ∷ l) (unfold bare in h) rs ws r w
+  items_led (tail ∷ l) h rs ws r w = bare_led (tail ∷ l) (unfold bare in h) rs ws r w
+  items_led (list b ∷ l) h rs ws r w = bare_led (list b ∷ l) (unfold bare in h) rs ws r w
 
 -- ---- in every layout operands stand in front, but in that of code 120
 unfoldable alone : List ℕ → Bool
@@ -271,21 +271,21 @@ dword_around a rs ws r w ps g e =
     }
 
 module _ (m : Bool) (rs : List ℕ) (r w : ℕ) where
-  led-parts : (ws : List ℕ) (l : List Item) → led l ≡ true → Every (λ ps. ws ≡ parts_words ps → Around 0 rs ws r w ps) (confirmItems m l rs ws r w)
-  led-parts ws l h = go (items-led m l h rs ws r w)
+  led_parts : (ws : List ℕ) (l : List Item) → led l ≡ true → Every (λ ps. ws ≡ parts_words ps → Around 0 rs ws r w ps) (confirm_items m l rs ws r w)
+  led_parts ws l h = go (items_led m l h rs ws r w)
     where
       go : {x : Option (List Tree)} → Every (Led rs ws r w) x → Every (λ ps. ws ≡ parts_words ps → Around 0 rs ws r w ps) x
       go unmet = unmet
       go (met {a = ps} g) = met (led_around rs ws r w ps g)
 
-  dword-parts : (ws : List ℕ) → Every (λ ps. ws ≡ parts_words ps → Around 1 rs ws r w ps) (confirmItems m (d ∷ o ∷ []) rs ws r w)
-  unfolding confirmItems confirmItem tree_words tree_rows
-  dword-parts [] = unmet
-  dword-parts (a ∷ ws) = rw (le-leb 1 (length (a ∷ ws)) (omega arith)) (every_then (items-led m (o ∷ []) (unfold led in refl) rs ws (r + 0) (w + 1)) (λ ps g. met (dword_around a rs ws r w ps g)))
+  dword_parts : (ws : List ℕ) → Every (λ ps. ws ≡ parts_words ps → Around 1 rs ws r w ps) (confirm_items m (d ∷ o ∷ []) rs ws r w)
+  unfolding confirm_items confirm_item tree_words tree_rows
+  dword_parts [] = unmet
+  dword_parts (a ∷ ws) = rw (le-leb 1 (length (a ∷ ws)) (omega arith)) (every_then (items_led m (o ∷ []) (unfold led in refl) rs ws (r + 0) (w + 1)) (λ ps g. met (dword_around a rs ws r w ps g)))
 
-  pub items_around : (ws : List ℕ) (c : ℕ) → Every (λ ps. ws ≡ parts_words ps → Around (before c) rs ws r w ps) (confirmItems m (layout c).items rs ws r w)
+  pub items_around : (ws : List ℕ) (c : ℕ) → Every (λ ps. ws ≡ parts_words ps → Around (before c) rs ws r w ps) (confirm_items m (layout c).items rs ws r w)
   items_around ws c = go (eqb c 120) refl
     where
-      go : (b : Bool) → eqb c 120 ≡ b → Every (λ ps. ws ≡ parts_words ps → Around (cond b 1 0) rs ws r w ps) (confirmItems m (layout c).items rs ws r w)
-      go true e = rw (eqb-true c 120 e, layout_120) (dword-parts ws)
-      go false e = led-parts ws (layout c).items (layout_led c (eqb-false c 120 e))
+      go : (b : Bool) → eqb c 120 ≡ b → Every (λ ps. ws ≡ parts_words ps → Around (cond b 1 0) rs ws r w ps) (confirm_items m (layout c).items rs ws r w)
+      go true e = rw (eqb-true c 120 e, layout_120) (dword_parts ws)
+      go false e = led_parts ws (layout c).items (layout_led c (eqb-false c 120 e))

@@ -49,23 +49,23 @@ long_sized q t n a b h = go (eqb (code t) 145 || eqb (code t) 146) (follows t) r
     go true true ex ey =
         let k : ltb 0 (at 8 q) ≡ true = lt-ltb 0 (at 8 q) (omega (arith, rw (ex, ey) at b)) in
         let z : (eqb (code t) 53 || true) ≡ false = rw (a, ex, k) at h in
-        or-true (eqb (code t) 53) z
+        or_true (eqb (code t) 53) z
       where
-        or-true : (x : Bool) → (x || true) ≡ false → true ≡ false
-        or-true true z = z
-        or-true false z = z
+        or_true : (x : Bool) → (x || true) ≡ false → true ≡ false
+        or_true true z = z
+        or_true false z = z
     go true false ex ey = refl
     go false y ex ey = refl
 
 -- ---- what is confirmed of an instruction, beside what its rows and words are
 data Shown (q rs ws : List ℕ) (r w : ℕ) : Instruction → Type 0 where
-  not-read : Shown q rs ws r w (unread ws)
+  not_read : Shown q rs ws r w (unread ws)
   read : {ps : List Tree} → headed (layout (at 2 q)) (token_of_row q) (head_of_row q) (length (parts_dwords ps)) ≡ true → (ws ≡ parts_words ps → Around (before (at 2 q)) rs ws r w ps) → Shown q rs ws r w (pieces (token_of_row q) (head_of_row q) ps)
 
 module _ (q : List ℕ) (place : ℕ) (rs ws : List ℕ) (r w : ℕ) where
-  shown-pieces : (ps : List Tree) → (ws ≡ parts_words ps → Around (before (at 2 q)) rs ws r w ps) → Every (Shown q rs ws r w) (confirm_pieces q place r w (token_of_row q) (head_of_row q) ps)
+  shown_pieces : (ps : List Tree) → (ws ≡ parts_words ps → Around (before (at 2 q)) rs ws r w ps) → Every (Shown q rs ws r w) (confirm_pieces q place r w (token_of_row q) (head_of_row q) ps)
   unfolding confirm_pieces
-  shown-pieces ps f =
+  shown_pieces ps f =
       let x = layout (at 2 q) in
       let t : ℕ = token_of_row q in
       let e : List ℕ = head_of_row q in
@@ -77,21 +77,21 @@ module _ (q : List ℕ) (place : ℕ) (rs ws : List ℕ) (r w : ℕ) where
       (λ z. met (read (both h (head_taken x t e) (both (h && head_taken x t e) b (both (h && head_taken x t e && b) y z).0).0).0 f))
       (λ z. unmet)
 
-  shown-known : (m : Bool) → Every (Shown q rs ws r w) (confirm_known m q place rs ws r w)
+  shown_known : (m : Bool) → Every (Shown q rs ws r w) (confirm_known m q place rs ws r w)
   unfolding confirm_known
-  shown-known m = every_then (items_around m rs r w ws (at 2 q)) shown-pieces
+  shown_known m = every_then (items_around m rs r w ws (at 2 q)) shown_pieces
 
-  shown-unread : Every (Shown q rs ws r w) (confirm_unread q place rs ws r w)
+  shown_unread : Every (Shown q rs ws r w) (confirm_unread q place rs ws r w)
   unfolding confirm_unread
-  shown-unread = every_if (ltb 0 (length ws) && eqb (length_of (at 0 ws) (drop 1 ws)) (length ws) && same q (unread_row place r w ws)) _ _ (λ z. met not-read) (λ z. unmet)
+  shown_unread = every_if (ltb 0 (length ws) && eqb (length_of (at 0 ws) (drop 1 ws)) (length ws) && same q (unread_row place r w ws)) _ _ (λ z. met not_read) (λ z. unmet)
 
   shown : (c : ℕ) (m : Bool) → Every (Shown q rs ws r w) (confirm_instruction c m q place rs ws r w)
   unfolding confirm_instruction
   shown c m = go (ltb (at 2 q) c)
     where
       go : (b : Bool) → Every (Shown q rs ws r w) (cond b (confirm_known m q place) (confirm_unread q place) rs ws r w)
-      go true = shown-known m
-      go false = shown-unread
+      go true = shown_known m
+      go false = shown_unread
 
 -- ---- its row
 pub record Known (q rs ws : List ℕ) (r w : ℕ) (ps : List Tree) : Type 0 where
@@ -101,7 +101,7 @@ pub record Known (q rs ws : List ℕ) (r w : ℕ) (ps : List Tree) : Type 0 wher
   pub around : Around (before (at 2 q)) rs ws r w ps
 
 pub data Opened (q rs ws : List ℕ) (r w : ℕ) : Instruction → Type 0 where
-  words-alone : at 3 q ≡ 0 → at 13 q ≡ 0 → Opened q rs ws r w (unread ws)
+  words_alone : at 3 q ≡ 0 → at 13 q ≡ 0 → Opened q rs ws r w (unread ws)
   known : {ps : List Tree} → Known q rs ws r w ps → Opened q rs ws r w (pieces (token_of_row q) (head_of_row q) ps)
 
 row_fits : (place r w : ℕ) (q : List ℕ) (t : ℕ) (e : List ℕ) (ps : List Tree) → q ≡ instruction_row place r w (pieces t e ps) → t ≡ token_of_row q → headed (layout (at 2 q)) t e (length (parts_dwords ps)) ≡ true → Fits q
@@ -124,7 +124,7 @@ row_fits place r w q t e ps s et h =
 
 open_shown : (place r w : ℕ) (q rs ws : List ℕ) {i : Instruction} → Shown q rs ws r w i → q ≡ instruction_row place r w i → ws ≡ parts_words (parts i) → Opened q rs ws r w i
 unfolding parts
-open_shown place r w q rs ws not-read s e = words-alone (unfold instruction_row unread_row in ap (at 3) s) (unfold instruction_row unread_row in ap (at 13) s)
+open_shown place r w q rs ws not_read s e = words_alone (unfold instruction_row unread_row in ap (at 3) s) (unfold instruction_row unread_row in ap (at 13) s)
 open_shown place r w q rs ws (read {ps = ps} h f) s e =
     let g = row_fits place r w q (token_of_row q) (head_of_row q) ps s refl h in
     let n : at 13 q ≡ top_level ps = unfold instruction_row in ap (at 13) s in

@@ -27,24 +27,24 @@ and_no true = refl
 and_no false = refl
 
 module _ (t : ℕ) (x : Shape) (l : Declared (code t) x) where
-  kind-4 : (layout (code t)).kind ≡ 4
-  kind-4 = ap (λ (y : Layout). y.kind) (sym l.laid.meaning) ∙ l.kind
+  kind_4 : (layout (code t)).kind ≡ 4
+  kind_4 = ap (λ (y : Layout). y.kind) (sym l.laid.meaning) ∙ l.kind
 
   -- codes of another kind declare nothing
-  of-another : (k : ℕ) (cs : List ℕ) → map (λ c. (layout c).kind) cs ≡ map (λ c. k) cs → (k ≡ 4 → ⊥) → within (code t) cs ≡ false
-  of-another k cs e n = go (within (code t) cs) refl
+  of_another : (k : ℕ) (cs : List ℕ) → map (λ c. (layout c).kind) cs ≡ map (λ c. k) cs → (k ≡ 4 → ⊥) → within (code t) cs ≡ false
+  of_another k cs e n = go (within (code t) cs) refl
     where
       go : (b : Bool) → within (code t) cs ≡ b → b ≡ false
-      go true q = absurd (n (sym (member (λ c. (layout c).kind) (λ c. k) cs e (code t) q) ∙ kind-4))
+      go true q = absurd (n (sym (member (λ c. (layout c).kind) (λ c. k) cs e (code t) q) ∙ kind_4))
       go false q = refl
 
   untested : within (code t) (3 ∷ 5 ∷ 8 ∷ 13 ∷ 31 ∷ 63 ∷ []) ≡ false
   unfolding numbers within line_of operand_count in_table layout
-  untested = of-another 1 (3 ∷ 5 ∷ 8 ∷ 13 ∷ 31 ∷ 63 ∷ []) refl (λ e. omega arith)
+  untested = of_another 1 (3 ∷ 5 ∷ 8 ∷ 13 ∷ 31 ∷ 63 ∷ []) refl (λ e. omega arith)
 
-  not-53 : eqb (code t) 53 ≡ false
+  not_53 : eqb (code t) 53 ≡ false
   unfolding numbers within line_of operand_count in_table layout
-  not-53 = ne_eqb (code t) 53 (λ e. let z : 5 ≡ 4 = ap (λ (c : ℕ). (layout c).kind) (sym e) ∙ kind-4 in omega arith)
+  not_53 = ne_eqb (code t) 53 (λ e. let z : 5 ≡ 4 = ap (λ (c : ℕ). (layout c).kind) (sym e) ∙ kind_4 in omega arith)
 
   record Parts : Type 0 where
     under : t < 2 ^ 31
@@ -68,7 +68,7 @@ module _ (t : ℕ) (x : Shape) (l : Declared (code t) x) where
 
     unsized : sized t ≡ false
     unfolding sized
-    unsized = rw (not-53, short)
+    unsized = rw (not_53, short)
 
     linear : (c f n q₁ q₂ : ℕ) → t ≡ c + 2048 * q₁ → q₁ ≡ f + 8192 * q₂ → q₂ ≡ n + 128 * 0 → t ≡ c + f * 2048 + 0 * 8192 + 0 * 262144 + 0 * 524288 + n * 16777216 + 0 * 2147483648
     linear c f n q₁ q₂ h₁ h₂ h₃ = omega arith

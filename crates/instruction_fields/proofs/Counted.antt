@@ -46,26 +46,26 @@ module _ (c n : ℕ) (h : operand_count c ≡ some n) where
       go true q = let z : operand_count c ≡ none = ap operand_count (eqb-true c k q) ∙ e in impossible (cc)
       go false q = refl
 
-  not-53 : eqb c 53 ≡ false
+  not_53 : eqb c 53 ≡ false
   unfolding numbers within line_of operand_count
-  not-53 = other 53 refl
+  not_53 = other 53 refl
 
-  not-145 : eqb c 145 ≡ false
+  not_145 : eqb c 145 ≡ false
   unfolding numbers within line_of operand_count
-  not-145 = other 145 refl
+  not_145 = other 145 refl
 
-  not-146 : eqb c 146 ≡ false
+  not_146 : eqb c 146 ≡ false
   unfolding numbers within line_of operand_count
-  not-146 = other 146 refl
+  not_146 = other 146 refl
 
 module _ (t n : ℕ) (h : operand_count (code t) ≡ some n) where
   pub short : long t ≡ false
   unfolding long
-  short = rw (not-145 (code t) n h, not-146 (code t) n h)
+  short = rw (not_145 (code t) n h, not_146 (code t) n h)
 
   pub unsized : sized t ≡ false
   unfolding sized
-  unsized = rw (not-53 (code t) n h, short)
+  unsized = rw (not_53 (code t) n h, short)
 
   -- behind its token stands a chain, if bit 31 says so
   pub chain_head : (l : List ℕ) → read_head (layout (code t)) t l ≡ chain (follows t) l
@@ -139,9 +139,9 @@ module _ (t n : ℕ) (h : operand_count (code t) ≡ some n) where
         go false true p q = sym (eqb-true _ _ p)
         go false false p q = impossible (cc)
 
-    plain-sum : eqb t (token_with (code t) (fields_of x t)) ≡ true
+    plain_sum : eqb t (token_with (code t) (fields_of x t)) ≡ true
     unfolding fields_of
-    plain-sum =
+    plain_sum =
         let extended : (fields_of x t).extended ≡ 0 = either_way (chained x || long t) (bits 31 31 t) clear.top in
         eq-eqb _ _ (sums (field_in x.field t) (fields_of x t).saturate (fields_of x t).test (fields_of x t).extended thirteenth test_is extended ∙ rw (unsized))
 
@@ -155,19 +155,19 @@ module _ (t n : ℕ) (h : operand_count (code t) ≡ some n) where
     plain_headed ds end k e =
         let z : slice 1 end ds ≡ [] = rw (e unfollowed) (slice_empty 1 ds) in
         let b : true ≡ in_bounds x.field t = unbounded (plain_shape 1 (width_of (code t)) n true) t (counts (code t) n h).sound refl in
-        rw (laid (code t) n h, z, plain-sum, ← b)
+        rw (laid (code t) n h, z, plain_sum, ← b)
 
 -- ---- the code's way to the operands
 module _ (ds : List ℕ) (t n : ℕ) (some-there : 0 < length ds) (et : t ≡ get_or ds 0 0) (h : operand_count (code t) ≡ some n) {f : Bool} (ef : f ≡ follows t) {a : Skip} (ea : a ≡ ends 1 (chain f (drop 1 ds))) where
   abbrev y : Layout
   y = layout (code t)
 
-  told-head : a ≡ ends 1 (read_head y t (drop 1 ds))
-  told-head = ea ∙ ap (λ (g : Bool). ends 1 (chain g (drop 1 ds))) ef ∙ ap (ends 1) (sym (chain_head t n h (drop 1 ds)))
+  told_head : a ≡ ends 1 (read_head y t (drop 1 ds))
+  told_head = ea ∙ ap (λ (g : Bool). ends 1 (chain g (drop 1 ds))) ef ∙ ap (ends 1) (sym (chain_head t n h (drop 1 ds)))
 
   module _ {b : ℕ} (e : a ≡ To b) where
     pub begins : Headed y t ds b
-    begins = headed_at y t ds some-there told-head e
+    begins = headed_at y t ds some-there told_head e
 
     pub no_chain : follows t ≡ false → b ≡ 1
     unfolding chain

@@ -23,8 +23,8 @@ module _ (ds : List ℕ) (at : ℕ) (h : at ≤ length ds) where
   at_front : at < length ds → drop at ds ≡ get_or ds at 0 ∷ drop (suc at) ds
   at_front k = drop-cons ds at 0 k
 
-  at-end : length ds ≤ at → drop at ds ≡ []
-  at-end k = drop_of_length-le ds k
+  at_end : length ds ≤ at → drop at ds ≡ []
+  at_end k = drop_of_length-le ds k
 
   -- no items
   pub stays : Passes [] ds at (At at)
@@ -49,7 +49,7 @@ module _ (ds : List ℕ) (at : ℕ) (h : at ≤ length ds) where
   small_off k n = out (λ m l. rw (at_front k) (small_large m l (get_or ds at 0) (drop (suc at) ds) n))
 
   pub small_end : length ds ≤ at → Passes (replicate 1 small) ds at Off
-  small_end k = out (λ m l. rw (at-end k) (small_none m l))
+  small_end k = out (λ m l. rw (at_end k) (small_none m l))
 
   -- a list
   module _ (b : ℕ) where
@@ -72,7 +72,7 @@ module _ (ds : List ℕ) (at : ℕ) (h : at ≤ length ds) where
         rw (at_front k) (list_short m l (get_or ds at 0) (drop (suc at) ds) b (omega arith)))
 
     pub list_end : length ds ≤ at → Passes items ds at Off
-    list_end k = out (λ m l. rw (at-end k) (list_none m l b))
+    list_end k = out (λ m l. rw (at_end k) (list_none m l b))
 
 -- the code's tests
 module _ (ds : List ℕ) (at : ℕ) (h : at ≤ length ds) (n : ℕ) (e : n ≡ length ds) where
@@ -82,18 +82,18 @@ module _ (ds : List ℕ) (at : ℕ) (h : at ≤ length ds) (n : ℕ) (e : n ≡ 
   pub dwords_to : (k k' : ℕ) → k' ≡ k → k' ≤ n - at → Passes (replicate k d) ds at (At (at + k'))
   dwords_to k k' f g = rw f (passes_dwords ds at h k (omega arith))
 
-  one-small : (k : ℕ) → k ≤ 1 → (k ≡ 0 → ⊥) → k ≡ 1
-  one-small k a b = omega arith
+  one_small : (k : ℕ) → k ≤ 1 → (k ≡ 0 → ⊥) → k ≡ 1
+  one_small k a b = omega arith
 
   module _ (k : ℕ) (a : k ≤ 1) (b : k ≡ 0 → ⊥) where
     pub past_end_small : n ≤ at → Passes (replicate k small) ds at Off
-    past_end_small g = rw (one-small k a b) (small_end ds at h (omega arith))
+    past_end_small g = rw (one_small k a b) (small_end ds at h (omega arith))
 
     pub too_large : (x : ℕ) → at < n → x ≡ get_or ds at 0 → 65_536 ≤ x → Passes (replicate k small) ds at Off
-    too_large x g f y = rw (one-small k a b) (small_off ds at h (omega arith) (omega arith))
+    too_large x g f y = rw (one_small k a b) (small_off ds at h (omega arith) (omega arith))
 
     pub small_to : (x : ℕ) → at < n → x ≡ get_or ds at 0 → x < 65_536 → Passes (replicate k small) ds at (At (at + 1))
-    small_to x g f y = rw (one-small k a b) (passes_small ds at h (omega arith) (omega arith))
+    small_to x g f y = rw (one_small k a b) (passes_small ds at h (omega arith) (omega arith))
 
   pub no_small : (k : ℕ) → k ≡ 0 → Passes (replicate k small) ds at (At at)
   no_small k z = rw z (stays ds at h)
@@ -101,20 +101,20 @@ module _ (ds : List ℕ) (at : ℕ) (h : at ≤ length ds) (n : ℕ) (e : n ≡ 
   pub no_list : (k : ℕ) → k ≡ 0 → Passes (listed k) ds at (At at)
   no_list k z = rw z (stays ds at h)
 
-  listed-one : (b : ℕ) → (b ≡ 0 → ⊥) → listed b ≡ list b ∷ []
-  listed-one b z = rw (ne_eqb b 0 z)
+  listed_one : (b : ℕ) → (b ≡ 0 → ⊥) → listed b ≡ list b ∷ []
+  listed_one b z = rw (ne_eqb b 0 z)
 
   module _ (b : ℕ) (z : b ≡ 0 → ⊥) where
     pub past_end_list : n ≤ at → Passes (listed b) ds at Off
-    past_end_list g = rw (listed-one b z) (list_end ds at h b (omega arith))
+    past_end_list g = rw (listed_one b z) (list_end ds at h b (omega arith))
 
     pub list_long : (x y k : ℕ) → at < n → x ≡ get_or ds at 0 → y ≡ x % 2 ^ b → k ≡ y → n - at - 1 < k → Passes (listed b) ds at Off
-    list_long x y k g f q r t = rw (listed-one b z) (list_off ds at h b (omega arith) (let w : k ≡ get_or ds at 0 % 2 ^ b = r ∙ q ∙ ap (λ (v : ℕ). v % 2 ^ b) f in omega arith))
+    list_long x y k g f q r t = rw (listed_one b z) (list_off ds at h b (omega arith) (let w : k ≡ get_or ds at 0 % 2 ^ b = r ∙ q ∙ ap (λ (v : ℕ). v % 2 ^ b) f in omega arith))
 
     pub list_to : (x y k : ℕ) → at < n → x ≡ get_or ds at 0 → y ≡ x % 2 ^ b → k ≡ y → k ≤ n - at - 1 → Passes (listed b) ds at (At (at + 1 + k))
     list_to x y k g f q r t =
         let w : k ≡ get_or ds at 0 % 2 ^ b = r ∙ q ∙ ap (λ (v : ℕ). v % 2 ^ b) f in
-        rw (listed-one b z, w) (passes_list ds at h b (omega arith) (omega arith))
+        rw (listed_one b z, w) (passes_list ds at h b (omega arith) (omega arith))
 
 -- the low 16 bits, or all
 pub low_bits : (b x : ℕ) → b ≡ 16 → x % 65536 ≡ x % 2 ^ b

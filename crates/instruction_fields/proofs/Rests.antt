@@ -12,7 +12,7 @@ use borrow.Author.Tests.{eq-eqb, ne_eqb}
 use Rattle.layouts.specs.Shapes.{listed, tailed}
 use Rattle.layouts.specs.declared.Shape.{Shape}
 use Rattle.format.specs.Dwords.{some}
-use Rattle.format.specs.Instructions.{readItem}
+use Rattle.format.specs.Instructions.{read_item}
 use Rattle.format.specs.Declarations.{Item, d, small, s, tail, list}
 use Rattle.format.proofs.Dwords.{impossible}
 use Rattle.instruction_fields.specs.declared.Place.{Place}
@@ -23,7 +23,7 @@ use Rattle.instruction_fields.proofs.Items.{item_off, one_dword_lem, extras, all
 -- the same after a run of dwords
 under : (m : Bool) (k l : List Item) → ((ds : List ℕ) → sum_of m k ds ≡ sum_of m l ds) → (a : ℕ) (ds : List ℕ) → sum_of m (replicate a d ++ k) ds ≡ sum_of m (replicate a d ++ l) ds
 under m k l f zero ds = f ds
-under m k l f (suc a) [] = item_off m d (replicate a d ++ k) [] (unfold readItem some in refl) ∙ sym (item_off m d (replicate a d ++ l) [] (unfold readItem some in refl))
+under m k l f (suc a) [] = item_off m d (replicate a d ++ k) [] (unfold read_item some in refl) ∙ sym (item_off m d (replicate a d ++ l) [] (unfold read_item some in refl))
 under m k l f (suc a) (x ∷ ds) = one_dword_lem m [] (replicate a d ++ k) x ds ∙ ap (add 0 1 true) (under m k l f a ds) ∙ sym (one_dword_lem m [] (replicate a d ++ l) x ds)
 
 joined : (a b : ℕ) (l : List Item) → replicate a d ++ (replicate b d ++ l) ≡ replicate (a + b) d ++ l

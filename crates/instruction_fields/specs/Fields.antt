@@ -5,7 +5,7 @@ use Rattle.format.specs.Counts.{within, Fields, token_with, rising}
 use Rattle.format.specs.Framing.{code}
 use Rattle.format.specs.Declarations.{Item, d, small, s, Layout, field_in, in_bounds}
 use Rattle.format.specs.Operands.{Tree, exact_parts}
-use Rattle.format.specs.Instructions.{readItems, fields_of, extensions}
+use Rattle.format.specs.Instructions.{read_items, fields_of, extensions}
 use Rattle.format.specs.Rows.{parts_rows, parts_words}
 use Rattle.layouts.specs.Shapes.{listed, tailed, field_of, Laid}
 use Rattle.layouts.specs.declared.Shape.{Shape}
@@ -28,7 +28,7 @@ total (got ps left) = sum (parts_rows ps) (length (parts_words ps)) (exact_parts
 
 -- items read from some dwords, all of them
 unfoldable pub sum_of : Bool → List Item → List ℕ → Sum
-sum_of model51 items ds = total (then (readItems model51 items ds) (λ ps. none_left ps))
+sum_of model51 items ds = total (then (read_items model51 items ds) (λ ps. none_left ps))
 
 -- items that are dwords as they are take those from a place on to another, whatever items follow, in either model; or do not fit
 pub data Passes (items : List Item) (ds : List ℕ) (at : ℕ) : Place → Type 0 where

@@ -46,14 +46,14 @@ either_way false n e = refl
 
 record Split (t c n : ℕ) : Type 0 where
   code_is : code t ≡ c
-  length-is : bits 24 30 t ≡ n
+  length_is : bits 24 30 t ≡ n
   top : bits 31 31 t ≡ 0
 
 split : (t c f n : ℕ) → t ≡ c + f * 2 ^ 11 + n * 2 ^ 24 → c < 2048 → f < 2 ^ 13 → n < 2 ^ 7 → Split t c n
 split t c f n z hc hf hn =
     let d₂₄ : t / 2 ^ 24 ≡ n = omega arith in
     let d₃₁ : t / 2 ^ 31 ≡ 0 = omega arith in
-    record { code_is = omega arith; length-is = rw d₂₄ (omega arith); top = rw d₃₁ }
+    record { code_is = omega arith; length_is = rw d₂₄ (omega arith); top = rw d₃₁ }
 
 module _ (q : List ℕ) (x : Shape) (g : Declared (at 2 q) x) (b : at 2 q < 2048) (p : OnlyField q x) where
   abbrev c : ℕ
@@ -65,28 +65,28 @@ module _ (q : List ℕ) (x : Shape) (g : Declared (at 2 q) x) (b : at 2 q < 2048
   by_shape : layout c ≡ meant x
   by_shape = sym g.laid.meaning
 
-  kind-4 : (layout c).kind ≡ 4
-  kind-4 = ap (λ (y : Layout). y.kind) by_shape ∙ g.kind
+  kind_4 : (layout c).kind ≡ 4
+  kind_4 = ap (λ (y : Layout). y.kind) by_shape ∙ g.kind
 
   -- codes of another kind declare nothing
-  of-another : (k : ℕ) (cs : List ℕ) → map (λ c. (layout c).kind) cs ≡ map (λ c. k) cs → (k ≡ 4 → ⊥) → within c cs ≡ false
-  of-another k cs e n = go (within c cs) refl
+  of_another : (k : ℕ) (cs : List ℕ) → map (λ c. (layout c).kind) cs ≡ map (λ c. k) cs → (k ≡ 4 → ⊥) → within c cs ≡ false
+  of_another k cs e n = go (within c cs) refl
     where
       go : (b : Bool) → within c cs ≡ b → b ≡ false
-      go true z = absurd (n (sym (member (λ c. (layout c).kind) (λ c. k) cs e c z) ∙ kind-4))
+      go true z = absurd (n (sym (member (λ c. (layout c).kind) (λ c. k) cs e c z) ∙ kind_4))
       go false z = refl
 
   untested : within c (3 ∷ 5 ∷ 8 ∷ 13 ∷ 31 ∷ 63 ∷ []) ≡ false
   unfolding numbers within line_of operand_count in_table layout
-  untested = of-another 1 (3 ∷ 5 ∷ 8 ∷ 13 ∷ 31 ∷ 63 ∷ []) refl (λ e. omega arith)
+  untested = of_another 1 (3 ∷ 5 ∷ 8 ∷ 13 ∷ 31 ∷ 63 ∷ []) refl (λ e. omega arith)
 
-  not-53 : eqb c 53 ≡ false
+  not_53 : eqb c 53 ≡ false
   unfolding numbers within line_of operand_count in_table layout
-  not-53 = ne_eqb c 53 (λ e. let z : 5 ≡ 4 = ap (λ (c : ℕ). (layout c).kind) (sym e) ∙ kind-4 in omega arith)
+  not_53 = ne_eqb c 53 (λ e. let z : 5 ≡ 4 = ap (λ (c : ℕ). (layout c).kind) (sym e) ∙ kind_4 in omega arith)
 
   short_row : sized_row q ≡ false
   unfolding sized_row
-  short_row = rw (p.no_chain.bits_are, not-53) (and_no (eqb c 145 || eqb c 146))
+  short_row = rw (p.no_chain.bits_are, not_53) (and_no (eqb c 145 || eqb c 146))
 
   made : t ≡ short_token q
   unfolding token_of_row
@@ -108,11 +108,11 @@ module _ (q : List ℕ) (x : Shape) (g : Declared (at 2 q) x) (b : at 2 q < 2048
 
   unsized : sized t ≡ false
   unfolding sized
-  unsized = rw (parts.code_is, not-53, not_long)
+  unsized = rw (parts.code_is, not_53, not_long)
 
   -- it is exact
-  field-of : field_in (field_of x) t ≡ at 7 q
-  field-of = rw made p.field_is
+  field_of_lem : field_in (field_of x) t ≡ at 7 q
+  field_of_lem = rw made p.field_is
 
   fielded : Fielded q (fields_of (meant x) t)
   unfolding fields_of
@@ -120,7 +120,7 @@ module _ (q : List ℕ) (x : Shape) (g : Declared (at 2 q) x) (b : at 2 q < 2048
     saturate_is = rw g.kind p.no_saturate;
     test_is = rw (parts.code_is, untested) p.no_test;
     precise_is = rw g.kind p.no_precise;
-    field_is = sym field-of;
+    field_is = sym field_of_lem;
   }
 
   no_top : (fields_of (meant x) t).extended ≡ 0
@@ -129,7 +129,7 @@ module _ (q : List ℕ) (x : Shape) (g : Declared (at 2 q) x) (b : at 2 q < 2048
 
   own_length : (fields_of (meant x) t).length ≡ at 1 q
   unfolding fields_of
-  own_length = rw unsized parts.length-is
+  own_length = rw unsized parts.length_is
 
   exact : t ≡ token_with (code t) (fields_of (meant x) t)
   exact = omega (arith, made, code_of, p.no_saturate, p.no_test, p.no_precise, fielded.saturate_is, fielded.test_is, fielded.precise_is, fielded.field_is, no_top, own_length)
@@ -146,18 +146,18 @@ module _ (q : List ℕ) (x : Shape) (g : Declared (at 2 q) x) (b : at 2 q < 2048
   head : Headed q (meant x) t (head_of_row q)
   head = rw (← same_layout) (bare_head q t code_of unsized unchained p.no_chain)
 
-  token-length : length_of t (head_of_row q) ≡ at 1 q
+  token_length : length_of t (head_of_row q) ≡ at 1 q
   unfolding length_of
-  token-length = rw unsized parts.length-is
+  token_length = rw unsized parts.length_is
 
-  declared-pieces : (n : ℕ) → at 1 q ≡ 1 + n → Pieces q n
-  declared-pieces n e =
+  declared_pieces : (n : ℕ) → at 1 q ≡ 1 + n → Pieces q n
+  declared_pieces n e =
       let z : at 1 q ≡ 1 + length (head_of_row q) + n = e ∙ rw no_head (omega arith) in
       rw by_shape (record {
         token = exact;
         bounds = rw made p.bounds;
         class = rw g.kind;
-        size = token-length ∙ z;
+        size = token_length ∙ z;
         dwords_are = z;
         code_is = code_of;
         fields_are = fielded;
@@ -212,18 +212,18 @@ module _ (k : ℕ) (rs ws : List ℕ) (r w : ℕ) (h : w ≤ length ws) where
     ran : Ran rs r w 1 (length ws) 0
     ran = subst (λ (j : ℕ). Ran rs r w 1 (length ws) (j - 1)) en (f (omega arith))
 
-    lone-size : y ≡ 1 + (ran.past - w)
-    lone-size =
+    lone_size : y ≡ 1 + (ran.past - w)
+    lone_size =
         let a : 1 + (ran.past - w) + 0 % 2 ^ 40 ≡ get_or rs (16 * r + 15) 0 = own_dwords (ran.runs 62 ws refl) refl in
         omega arith
 
     pub lone_fits : (1 ≤ y) × (w + y ≤ length ws + 1)
-    lone_fits = (omega (arith, lone-size), omega (arith, lone-size, ran.words_from, ran.words_to))
+    lone_fits = (omega (arith, lone_size), omega (arith, lone_size, ran.words_from, ran.words_to))
 
     pub one_lone : Lone k rs ws r w (At (w + y - 1))
     one_lone v e m =
         let a : w + y - 1 ≡ v = (cc) in
-        let b : ran.past ≡ v = omega (arith, lone-size, ran.words_from) in
+        let b : ran.past ≡ v = omega (arith, lone_size, ran.words_from) in
         let d : 1 + (ran.past - w) + 0 % 2 ^ 40 ≡ 1 + (v - w) = omega arith in
         let p : r + (1 + 0 / 2 ^ 40) ≡ r + 1 = omega arith in
         let j : 1 ≡ k = omega (arith, z) in
@@ -245,8 +245,8 @@ module _ (m : Bool) (x : Shape) (rs ws : List ℕ) (r w : ℕ) (hw : w ≤ lengt
         let t = third_bounds m x rs ws r w hw p ep a ea run _ b _ refl v last end ee in
         (omega (arith, f, behind_lone, t), t.1)
 
-    declared-parts : Takes m (items_of x) x.operands rs ws r w (To (r + x.operands) end (x.operands + (end - w)))
-    declared-parts =
+    declared_parts : Takes m (items_of x) x.operands rs ws r w (To (r + x.operands) end (x.operands + (end - w)))
+    declared_parts =
         let f = first_bounds m x rs ws r w hw p ep a ea in
         let t = third_bounds m x rs ws r w hw p ep a ea run _ b _ refl v last end ee in
         let z : a - w + (x.operands + (b - a)) + (end - b) ≡ x.operands + (end - w) = omega (arith, f, behind_lone, t) in
@@ -260,5 +260,5 @@ module _ (m : Bool) (x : Shape) (rs ws : List ℕ) (r w : ℕ) (hw : w ≤ lengt
           let o₁ : get_or l (i + 13) 0 ≡ x.operands = sym (row_at l i 13 (lit< tt)) ∙ (granted pl (not-false d hd)).operands_are in
           let j : get_or l (i + 13) 0 ≡ r + x.operands - r = omega arith in
           let f = o (not-false c hf) in
-          let s : Pieces (row_from i l) (x.operands + (end - w)) = declared-pieces (row_from i l) x (rw q₂ g) (omega arith) f _ z in
-          (omega (arith, f.short), ap (λ (c : ℕ). Is c n) j ∙ walks l i place m rs ws r w h x g.laid declared-parts _ _ _ refl pl hd {c = true} (holds s) refl n (sym eq ∙ ey))
+          let s : Pieces (row_from i l) (x.operands + (end - w)) = declared_pieces (row_from i l) x (rw q₂ g) (omega arith) f _ z in
+          (omega (arith, f.short), ap (λ (c : ℕ). Is c n) j ∙ walks l i place m rs ws r w h x g.laid declared_parts _ _ _ refl pl hd {c = true} (holds s) refl n (sym eq ∙ ey))

@@ -50,7 +50,7 @@ record Split (t c s e p n f : ℕ) : Type 0 where
   saturate : bits 13 13 t ≡ s
   test : bits 18 18 t ≡ e
   precise : bits 19 22 t ≡ p
-  length-is : bits 24 30 t ≡ n
+  length_is : bits 24 30 t ≡ n
   top : bits 31 31 t ≡ f
 
 split : (t c s e p n f : ℕ) → t ≡ c + s * 8192 + e * 262144 + p * 524288 + n * 16777216 + f * 2147483648 → c < 2048 → s < 2 → e < 2 → p < 16 → n < 128 → f < 2 → Split t c s e p n f
@@ -67,7 +67,7 @@ split t c s e p n f z hc hs he hp hn hf =
       saturate = rw d₁₃ (omega arith);
       test = rw d₁₈ (omega arith);
       precise = rw d₁₉ (omega arith);
-      length-is = rw d₂₄ (omega arith);
+      length_is = rw d₂₄ (omega arith);
       top = rw d₃₁ (omega arith);
     }
 
@@ -91,15 +91,15 @@ module _ (q : List ℕ) (k : ℕ) (g : Counted q k) (p : Plain q) (l : Linked q)
   f = cond (ltb 0 (at 8 q)) 1 0
 
   -- its own code is a token with that count
-  unsized-row : sized_row q ≡ false
-  unsized-row =
+  unsized_row : sized_row q ≡ false
+  unsized_row =
       let z : c % 2048 ≡ c = omega (arith, g.below) in
       let a : operand_count (code c) ≡ just k = rw z g.count in
       short_row q c (sym z) (unsized c k a) (inl (counted_chains (code c) k a))
 
   made : t ≡ c + at 4 q * 8192 + at 5 q * 262144 + at 6 q * 524288 + at 1 q * 16777216 + f * 2147483648
   unfolding token_of_row
-  made = rw (unsized-row, p.field_is) (omega arith)
+  made = rw (unsized_row, p.field_is) (omega arith)
 
   parts : Split t c (at 4 q) (at 5 q) (at 6 q) (at 1 q) f
   parts = split t c (at 4 q) (at 5 q) (at 6 q) (at 1 q) f made g.below p.bits_are.first p.bits_are.second p.precise_is h (bit_below (at 8 q) refl)
@@ -119,8 +119,8 @@ module _ (q : List ℕ) (k : ℕ) (g : Counted q k) (p : Plain q) (l : Linked q)
   code_of : at 2 q ≡ code t
   code_of = sym parts.code_is
 
-  unsized-t : sized t ≡ false
-  unsized-t = unsized t k counted
+  unsized_t : sized t ≡ false
+  unsized_t = unsized t k counted
 
   following : follows t ≡ ltb 0 (at 8 q)
   unfolding follows
@@ -158,7 +158,7 @@ module _ (q : List ℕ) (k : ℕ) (g : Counted q k) (p : Plain q) (l : Linked q)
 
   own_length : (fields_of x t).length ≡ at 1 q
   unfolding fields_of
-  own_length = rw unsized-t parts.length-is
+  own_length = rw unsized_t parts.length_is
 
   exact : t ≡ token_with (code t) (fields_of x t)
   exact = omega (arith, made, code_of, fielded.saturate_is, fielded.test_is, fielded.precise_is, p.field_is, fielded.field_is, top_bit, own_length)
@@ -166,31 +166,31 @@ module _ (q : List ℕ) (k : ℕ) (g : Counted q k) (p : Plain q) (l : Linked q)
   in_bounds_lem : in_bounds x.field t ≡ true
   in_bounds_lem = ap (λ (z : Layout). in_bounds z.field t) by_count ∙ sym (unbounded y t (counts (code t) k counted).sound refl)
 
-  any-class : (n : ℕ) → classed x.kind t n ≡ true
-  any-class n = rw by_count
+  any_class : (n : ℕ) → classed x.kind t n ≡ true
+  any_class n = rw by_count
 
-  chain-is : head_of_row q ≡ chain_in q
-  chain-is = a_chain q t code_of unsized-t chains
+  chain_is : head_of_row q ≡ chain_in q
+  chain_is = a_chain q t code_of unsized_t chains
 
   head : Headed q x t (head_of_row q)
-  head = chain_head q t code_of unsized-t chains (rw following l)
+  head = chain_head q t code_of unsized_t chains (rw following l)
 
-  token-length : length_of t (head_of_row q) ≡ at 1 q
+  token_length : length_of t (head_of_row q) ≡ at 1 q
   unfolding length_of
-  token-length = rw unsized-t parts.length-is
+  token_length = rw unsized_t parts.length_is
 
   -- so the row is exact with as many dwords as it says
   by_row : layout (at 2 q) ≡ x
   by_row = ap layout code_of
 
-  plain-pieces : (n : ℕ) → at 1 q ≡ 1 + length (chain_in q) + n → Pieces q n
-  plain-pieces n e =
-      let z : at 1 q ≡ 1 + length (head_of_row q) + n = rw chain-is e in
+  plain_pieces : (n : ℕ) → at 1 q ≡ 1 + length (chain_in q) + n → Pieces q n
+  plain_pieces n e =
+      let z : at 1 q ≡ 1 + length (head_of_row q) + n = rw chain_is e in
       rw by_row (record {
         token = exact;
         bounds = in_bounds_lem;
-        class = any-class n;
-        size = token-length ∙ z;
+        class = any_class n;
+        size = token_length ∙ z;
         dwords_are = z;
         code_is = code_of;
         fields_are = fielded;
@@ -300,11 +300,11 @@ module _ (l : List ℕ) (i place : ℕ) (rs ws : List ℕ) (r w k : ℕ) (h : i 
       let z : k + 0 ≡ k = omega arith in
       rw z at (takes_then {b = tail ∷ []} (a m) (all_words ws v (bounds (a m)).words_to m rs r₁))
 
-  counted-walks : {r₁ v d n : ℕ} → Runs k rs ws r w (To r₁ v d) → 1 + length (chain_in q₁) + d + (length ws - v) ≡ n → n < 128 → get_or l (i + 1) 0 ≡ n → Known q₁ place (drop (16 * r) rs) (drop w ws) r w (Is (r₁ - r) n)
-  counted-walks {v = v} {d = d} {n = n} a en hn e m =
+  counted_walks : {r₁ v d n : ℕ} → Runs k rs ws r w (To r₁ v d) → 1 + length (chain_in q₁) + d + (length ws - v) ≡ n → n < 128 → get_or l (i + 1) 0 ≡ n → Known q₁ place (drop (16 * r) rs) (drop w ws) r w (Is (r₁ - r) n)
+  counted_walks {v = v} {d = d} {n = n} a en hn e m =
       let y : at 1 q₁ ≡ n = row_at l i 1 (lit< tt) ∙ e in
       let z : at 1 q₁ ≡ 1 + length (chain_in q₁) + (d + (length ws - v)) = omega arith in
-      walks l i place m rs ws r w h s laid (all a m) _ _ _ refl {b = true} (holds o) refl {c = true} (holds (plain-pieces q₁ k g p c (omega arith) _ z)) refl n (sym e)
+      walks l i place m rs ws r w h s laid (all a m) _ _ _ refl {b = true} (holds o) refl {c = true} (holds (plain_pieces q₁ k g p c (omega arith) _ z)) refl n (sym e)
 
 -- by operands that have one row or two; b / 2 ^ 40 of them have two
 module _ (l : List ℕ) (i place : ℕ) (rs ws : List ℕ) (r w : ℕ) (h : i + 16 ≤ length l) (hw : w ≤ length ws) (h₃ : get_or l (i + 3) 0 ≡ 1) (few : length ws < 2 ^ 32) (a : Ready (row_from i l) place r w (length ws - w)) where
@@ -321,7 +321,7 @@ module _ (l : List ℕ) (i place : ℕ) (rs ws : List ℕ) (r w : ℕ) (h : i + 
       let z = dwords_taken k (length (chain_in q)) ((x - 1) % 2 ^ 40) a₁.words_from a₁.words_to ∙ sym s.1 in
       let j = rows_taken r e₁₃ s.0 in
       let y : n % 2 ^ 40 ≡ b % 2 ^ 40 = ap (λ (c : ℕ). c % 2 ^ 40) (sym eb) in
-      ap (λ (c : ℕ). Is c (b % 2 ^ 40)) j ∙ counted-walks l i place rs ws r w k h g a.plain o c.0 (run_takes (a₁.runs 62 ws refl) hw) z (omega arith) (e ∙ y) m
+      ap (λ (c : ℕ). Is c (b % 2 ^ 40)) j ∙ counted_walks l i place rs ws r w k h g a.plain o c.0 (run_takes (a₁.runs 62 ws refl) hw) z (omega arith) (e ∙ y) m
 
 -- by operands one after the other, in pools that are lent anew
 module _ (l : List ℕ) (i place : ℕ) (rs ws : List ℕ) (r w k : ℕ) {p : Parts} (run : Runs k (take (length rs - 0) rs) (take (length ws - 0) ws) r w p) {r₁ v d : ℕ} (ep : p ≡ To r₁ v d) where
@@ -335,4 +335,4 @@ module _ (l : List ℕ) (i place : ℕ) (rs ws : List ℕ) (r w k : ℕ) {p : Pa
       1 + c + d + (length ws - v) < 128 → {y : ℕ} → y ≡ get_or l (i + 1) 0 → y ≡ 1 + c + d + (length ws - v) → Known (row_from i l) place (drop (16 * r) rs) (drop w ws) r w (Is (r₁ - r) (1 + c + d + (length ws - v)))
   one_by_one h g pl {b} o hb t ec hn ey e =
       let u = told t ec in
-      counted-walks l i place rs ws r w k h g pl (granted o (not-false b hb)) u.is ran (ap (λ (j : ℕ). 1 + j + d + (length ws - v)) u.size) hn (sym ey ∙ e)
+      counted_walks l i place rs ws r w k h g pl (granted o (not-false b hb)) u.is ran (ap (λ (j : ℕ). 1 + j + d + (length ws - v)) u.size) hn (sym ey ∙ e)

@@ -13,7 +13,7 @@ use Rattle.format.specs.Framing.{code}
 use Rattle.format.specs.Counts.{operand_count, rising}
 use Rattle.format.specs.Declarations.{Item, o, tail, Layout, layout}
 use Rattle.format.specs.Operands as op
-use Rattle.format.specs.Instructions.{pieces, read_head, readItem, readItems, split, judged, extensions}
+use Rattle.format.specs.Instructions.{pieces, read_head, read_item, read_items, split, judged, extensions}
 use Rattle.layouts.specs.declared.Shape.{Shape}
 use Rattle.layouts.specs.Shapes.{Laid, meant, items_of}
 use Rattle.layouts.proofs.Others.{counts}
@@ -29,12 +29,12 @@ use Rattle.instruction_write.proofs.Parted.{then_same, run_room, Known, known, c
 use Rattle.instruction_write.proofs.Knowing.{known_lost, known_room, row_ready, known_written, room_as, body_as}
 
 -- such an instruction is the same in either model
-same_items : (m : Bool) (n : ℕ) (ds : List ℕ) → readItems m (replicate n o ++ tail ∷ []) ds ≡ readItems false (replicate n o ++ tail ∷ []) ds
-unfolding readItems readItem
+same_items : (m : Bool) (n : ℕ) (ds : List ℕ) → read_items m (replicate n o ++ tail ∷ []) ds ≡ read_items false (replicate n o ++ tail ∷ []) ds
+unfolding read_items read_item
 same_items m zero ds = refl
-same_items m (suc n) ds = then_same (readItems m (replicate n o ++ tail ∷ [])) (readItems false (replicate n o ++ tail ∷ [])) (same_items m n) (op.operand 64 ds)
+same_items m (suc n) ds = then_same (read_items m (replicate n o ++ tail ∷ [])) (read_items false (replicate n o ++ tail ∷ [])) (same_items m n) (op.operand 64 ds)
 
-either_shape : (m : Bool) (c n : ℕ) (ds : List ℕ) → readItems m (items_of (counted_shape c n)) ds ≡ readItems false (items_of (counted_shape c n)) ds
+either_shape : (m : Bool) (c n : ℕ) (ds : List ℕ) → read_items m (items_of (counted_shape c n)) ds ≡ read_items false (items_of (counted_shape c n)) ds
 unfolding items_of
 either_shape m c n ds = same_items m n ds
 
@@ -73,7 +73,7 @@ pub ran_at : (n : ℕ) (ds : List ℕ) (at at' : ℕ) {row word word' : ℕ} {L 
 ran_at n ds at at' e f q = rw (e, f) q
 
 -- its parts: operands before which no dwords stand, and those behind them
-module _ (n : ℕ) (ds : List ℕ) (at : ℕ) {ops ws row word : ℕ} (q : BodyRoom (readItems false (counted_items n) (drop at ds)) (length ds) at ops ws row word) (W : List ℕ) (lw : length W ≡ ws) where
+module _ (n : ℕ) (ds : List ℕ) (at : ℕ) {ops ws row word : ℕ} (q : BodyRoom (read_items false (counted_items n) (drop at ds)) (length ds) at ops ws row word) (W : List ℕ) (lw : length W ≡ ws) where
   same_place : at + 0 ≡ at
   same_place = omega arith
 
@@ -98,7 +98,7 @@ module _ (n : ℕ) (ds : List ℕ) (at : ℕ) {ops ws row word : ℕ} (q : BodyR
       parts_copy = copy_room false (counted_shape 0 n) ds at q W W lw 0 refl refl L L' zs a moved j e f k ej (omega arith) (omega arith) ek
 
       pub parts_written : (vs : List ℕ) → vs ≡ take k (drop e ds) ++ drop k (take (length Y - f) (drop f Y)) → (z : Sizes) → z.rows ≡ a.rows → z.words ≡ f + k
-          → WroteBody (readItems false (counted_items n) (drop at ds)) row word L W z L' (put_mid f (length Y - f) Y vs)
+          → WroteBody (read_items false (counted_items n) (drop at ds)) row word L W z L' (put_mid f (length Y - f) Y vs)
       parts_written = written false (counted_shape 0 n) ds at q W W lw 0 refl refl L L' zs a moved j e f k ej (omega arith) (omega arith) ek
 
 -- ---- the code's way through a counted instruction
@@ -121,13 +121,13 @@ module _ (ds : List ℕ) (t n : ℕ) (et : t ≡ get_or ds 0 0) (h : operand_cou
     hd : Headed (meant x) t ds b
     hd = headed_at (meant x) t ds q.some told e
 
-    same : readItems false (items_of x) (drop b ds) ≡ readItems false (counted_items n) (drop b ds)
-    same = ap (λ (l : List Item). readItems false l (drop b ds)) (items_as (code t) n)
+    same : read_items false (items_of x) (drop b ds) ≡ read_items false (counted_items n) (drop b ds)
+    same = ap (λ (l : List Item). read_items false l (drop b ds)) (items_as (code t) n)
 
-    pub counted_room : BodyRoom (readItems false (counted_items n) (drop b ds)) (length ds) b ops ws row' word'
+    pub counted_room : BodyRoom (read_items false (counted_items n) (drop b ds)) (length ds) b ops ws row' word'
     counted_room = room_as same er ew (known_room false x t ds et la q hd)
 
-    module _ {L W L' W' : List ℕ} {z : Sizes} (wr : WroteBody (readItems false (counted_items n) (drop b ds)) row' word' L W z L' W') where
+    module _ {L W L' W' : List ℕ} {z : Sizes} (wr : WroteBody (read_items false (counted_items n) (drop b ds)) row' word' L W z L' W') where
       pub counted_ready : RowReady x ds b z.words
       counted_ready = row_ready false x t ds et la q hd (body_as same er ew wr)
 

@@ -14,7 +14,7 @@ use Rattle.format.specs.Dwords.{follows, got, chain}
 use Rattle.format.specs.Framing.{code, long, sized}
 use Rattle.format.specs.Counts.{numbers, within, line_of, operand_count, of_type, type_bits}
 use Rattle.format.specs.Declarations.{Layout, in_table, layout, field_in}
-use Rattle.format.specs.Instructions.{read_head, readItems, split, judged, fields_of, extensions}
+use Rattle.format.specs.Instructions.{read_head, read_items, split, judged, fields_of, extensions}
 use Rattle.format.specs.Rows.{parts_rows, parts}
 use Rattle.format.proofs.Dwords.{both, impossible}
 use Rattle.format.proofs.Each.{absent}
@@ -129,10 +129,10 @@ module _ (m : Bool) (s : Shape) (x t : ℕ) (ds : List ℕ) (et : t ≡ get_or d
   hd = begins t s la four short ds q.some
 
   module _ {row' word' : ℕ} (er : row' ≡ row) (ew : word' ≡ word) where
-    pub declared_room : BodyRoom (readItems m (items_of s) (drop 1 ds)) (length ds) 1 ops ws row' word' × (s.operands ≤ 1)
+    pub declared_room : BodyRoom (read_items m (items_of s) (drop 1 ds)) (length ds) 1 ops ws row' word' × (s.operands ≤ 1)
     declared_room = let z : s.operands ≡ x / 0x800000 % 2 = ap (λ (y : Shape). y.operands) es in (room_as refl er ew (known_room m s t ds et la q hd), omega (arith, z))
 
-    module _ {L W L' W' : List ℕ} {z : Sizes} (wr : WroteBody (readItems m (items_of s) (drop 1 ds)) row' word' L W z L' W') where
+    module _ {L W L' W' : List ℕ} {z : Sizes} (wr : WroteBody (read_items m (items_of s) (drop 1 ds)) row' word' L W z L' W') where
       pub declared_ready : DeclaredReady s ds t z.words
       declared_ready = let r = row_ready m s t ds et la q hd (body_as refl er ew wr) in record { laid = la; declares = four; short = short; few = r.few; words_fit = r.words_fit }
 
@@ -157,7 +157,7 @@ module _ (m : Bool) (s : Shape) (t : ℕ) (ds : List ℕ) (et : t ≡ get_or ds 
     words_copy = words_room m s zero ds b n count (known_room m s t ds et la q front)
 
     module _ (W : List ℕ) {W' : List ℕ} (ew : W' ≡ take n (drop b ds) ++ drop n W) where
-      wrote : (z : Sizes) (L : List ℕ) → z.rows ≡ 0 → z.words ≡ n → WroteBody (readItems m (items_of s) (drop b ds)) row word L W z L W'
+      wrote : (z : Sizes) (L : List ℕ) → z.rows ≡ 0 → z.words ≡ n → WroteBody (read_items m (items_of s) (drop b ds)) row word L W z L W'
       wrote z L zr zw = words_wrote m s zero ds b n count L zr zw ew
 
       pub words_ready : RowReady s ds b n

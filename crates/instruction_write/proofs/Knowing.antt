@@ -14,7 +14,7 @@ use Rattle.format.specs.Counts.{token_with, rising}
 use Rattle.format.specs.Declarations.{Layout, layout, in_bounds}
 use Rattle.format.specs.Operands as op
 use Rattle.format.specs.Operands.{Tree}
-use Rattle.format.specs.Instructions.{Instruction, unread, pieces, Reading, ok, inexact, read_head, readItems, split, fields_of, extensions, exact_class, exact_pieces, checked, judged, read, dwords}
+use Rattle.format.specs.Instructions.{Instruction, unread, pieces, Reading, ok, inexact, read_head, read_items, split, fields_of, extensions, exact_class, exact_pieces, checked, judged, read, dwords}
 use Rattle.format.specs.Rows.{tree_rows, tree_words, tree_table, parts_rows, parts_words, parts_table, top_level, parts, unread_row, instruction_row}
 use Rattle.format.proofs.Dwords.{impossible, both}
 use Rattle.format.proofs.Instructions.{makes_split, kept_ok, kept_fault, kept_judged, read_unknown}
@@ -42,11 +42,11 @@ pub record Accepted (m : Bool) (x : Layout) (t : ℕ) (ds : List ℕ) (i : Instr
   pub trees : List Tree
   pub middle : List ℕ
   pub head : read_head x t (drop 1 ds) ≡ got exts middle
-  pub items : readItems m x.items middle ≡ got trees []
+  pub items : read_items m x.items middle ≡ got trees []
   pub exact : exact_pieces x t exts trees ≡ true
   pub is : i ≡ pieces t exts trees
 
-split_head : (m : Bool) (x : Layout) (t : ℕ) (ds : List ℕ) → 0 < length ds → t ≡ get_or ds 0 0 → split m x ds ≡ then (read_head x t (drop 1 ds)) (λ e r. then (readItems m x.items r) (λ ps. none_left (pieces t e ps)))
+split_head : (m : Bool) (x : Layout) (t : ℕ) (ds : List ℕ) → 0 < length ds → t ≡ get_or ds 0 0 → split m x ds ≡ then (read_head x t (drop 1 ds)) (λ e r. then (read_items m x.items r) (λ ps. none_left (pieces t e ps)))
 unfolding split
 split_head m x t ds h et = rw (dword_at_lem ds 0 h, ← et)
 
@@ -54,18 +54,18 @@ pub accepted : (m : Bool) (x : Layout) (t : ℕ) (ds : List ℕ) (i : Instructio
 unfolding judged checked none_left
 accepted m x t ds i h et e = go (read_head x t (drop 1 ds)) refl (sym (ap (judged x) (split_head m x t ds h et)) ∙ e)
   where
-    whole : (y r : List ℕ) (ps : List Tree) → read_head x t (drop 1 ds) ≡ got y r → readItems m x.items r ≡ got ps [] → (b : Bool) → exact_pieces x t y ps ≡ b → cond b (ok (pieces t y ps)) inexact ≡ ok i → Accepted m x t ds i
+    whole : (y r : List ℕ) (ps : List Tree) → read_head x t (drop 1 ds) ≡ got y r → read_items m x.items r ≡ got ps [] → (b : Bool) → exact_pieces x t y ps ≡ b → cond b (ok (pieces t y ps)) inexact ≡ ok i → Accepted m x t ds i
     whole y r ps p q true z w = let v : pieces t y ps ≡ i = cc in record { exts = y; trees = ps; middle = r; head = p; items = q; exact = z; is = sym v }
     whole y r ps p q false z w = impossible (cc)
 
-    some : (y r : List ℕ) → read_head x t (drop 1 ds) ≡ got y r → (g : Got (List Tree)) → readItems m x.items r ≡ g → judged x (then g (λ ps. none_left (pieces t y ps))) ≡ ok i → Accepted m x t ds i
+    some : (y r : List ℕ) → read_head x t (drop 1 ds) ≡ got y r → (g : Got (List Tree)) → read_items m x.items r ≡ g → judged x (then g (λ ps. none_left (pieces t y ps))) ≡ ok i → Accepted m x t ds i
     some y r p malformed q z = kept_ok {P = λ j. Accepted m x t ds i} (kept_fault x) z
     some y r p (got ps []) q z = whole y r ps p q (exact_pieces x t y ps) refl z
     some y r p (got ps (u ∷ l)) q z = kept_ok {P = λ j. Accepted m x t ds i} (kept_fault x) z
 
-    go : (g : Got (List ℕ)) → read_head x t (drop 1 ds) ≡ g → judged x (then g (λ y r. then (readItems m x.items r) (λ ps. none_left (pieces t y ps)))) ≡ ok i → Accepted m x t ds i
+    go : (g : Got (List ℕ)) → read_head x t (drop 1 ds) ≡ g → judged x (then g (λ y r. then (read_items m x.items r) (λ ps. none_left (pieces t y ps)))) ≡ ok i → Accepted m x t ds i
     go malformed p z = kept_ok {P = λ j. Accepted m x t ds i} (kept_fault x) z
-    go (got y r) p z = some y r p (readItems m x.items r) refl z
+    go (got y r) p z = some y r p (read_items m x.items r) refl z
 
 exact_rises : (x : Layout) (t : ℕ) (e : List ℕ) (ps : List Tree) → exact_pieces x t e ps ≡ true → rising 0 (extensions x e) ≡ true
 unfolding exact_pieces
@@ -102,16 +102,16 @@ module _ (m : Bool) (s : Shape) (t : ℕ) (ds : List ℕ) (et : t ≡ get_or ds 
   parts_are e = ap parts e
 
   module _ {b : ℕ} (hd : Headed (meant s) t ds b) where
-    middle-is : acc.middle ≡ drop b ds
-    middle-is = let y : got acc.exts acc.middle ≡ got (slice 1 b ds) (drop b ds) = sym acc.head ∙ hd.is in cc
+    middle_is : acc.middle ≡ drop b ds
+    middle_is = let y : got acc.exts acc.middle ≡ got (slice 1 b ds) (drop b ds) = sym acc.head ∙ hd.is in cc
 
-    exts-are : acc.exts ≡ slice 1 b ds
-    exts-are = let y : got acc.exts acc.middle ≡ got (slice 1 b ds) (drop b ds) = sym acc.head ∙ hd.is in cc
+    exts_are : acc.exts ≡ slice 1 b ds
+    exts_are = let y : got acc.exts acc.middle ≡ got (slice 1 b ds) (drop b ds) = sym acc.head ∙ hd.is in cc
 
-    items-are : readItems m (items_of s) (drop b ds) ≡ got acc.trees []
-    items-are = ap (readItems m (items_of s)) (sym middle-is) ∙ acc.items
+    items_are : read_items m (items_of s) (drop b ds) ≡ got acc.trees []
+    items_are = ap (read_items m (items_of s)) (sym middle_is) ∙ acc.items
 
-    pub known_room : BodyRoom (readItems m (items_of s) (drop b ds)) (length ds) b ops ws row word
+    pub known_room : BodyRoom (read_items m (items_of s) (drop b ds)) (length ds) b ops ws row word
     known_room =
         let e : parts q.instruction ≡ acc.trees = parts_are acc.is in
         let r : parts_rows (parts q.instruction) ≡ parts_rows acc.trees = ap parts_rows e in
@@ -120,7 +120,7 @@ module _ (m : Bool) (s : Shape) (t : ℕ) (ds : List ℕ) (et : t ≡ get_or ds 
           room = record {
             trees = acc.trees;
             rest = [];
-            is = items-are;
+            is = items_are;
             within = hd.within;
             for_rows = omega (arith, q.for_rows);
             for_words = omega (arith, q.for_words);
@@ -131,20 +131,20 @@ module _ (m : Bool) (s : Shape) (t : ℕ) (ds : List ℕ) (et : t ≡ get_or ds 
           whole = refl;
         }
 
-    module _ {L W L' W' : List ℕ} {a : Sizes} (wr : WroteBody (readItems m (items_of s) (drop b ds)) row word L W a L' W') where
-      body-put : Put acc.trees row word L W a.rows a.words L' W'
-      body-put = wr acc.trees items-are
+    module _ {L W L' W' : List ℕ} {a : Sizes} (wr : WroteBody (read_items m (items_of s) (drop b ds)) row word L W a L' W') where
+      body_put : Put acc.trees row word L W a.rows a.words L' W'
+      body_put = wr acc.trees items_are
 
       pub row_ready : RowReady s ds b a.words
       row_ready =
           let e : parts q.instruction ≡ acc.trees = parts_are acc.is in
           let w : length (parts_words (parts q.instruction)) ≡ length (parts_words acc.trees) = ap (λ (l : List Tree). length (parts_words l)) e in
-          let z = body-put.words_are in
+          let z = body_put.words_are in
           record {
             sound = la.sound;
             from = hd.begun;
             within = hd.within;
-            rises = ap (λ (l : List ℕ). rising 0 (extensions (meant s) l)) (sym exts-are) ∙ exact_rises (meant s) t acc.exts acc.trees acc.exact;
+            rises = ap (λ (l : List ℕ). rising 0 (extensions (meant s) l)) (sym exts_are) ∙ exact_rises (meant s) t acc.exts acc.trees acc.exact;
             few = omega (arith, q.at_fits);
             words_fit = omega (arith, q.word_fits);
           }
@@ -157,12 +157,12 @@ module _ (m : Bool) (s : Shape) (t : ℕ) (ds : List ℕ) (et : t ≡ get_or ds 
           let u : i ≡ pieces t acc.exts acc.trees = sym v ∙ acc.is in
           let dw : dwords i ≡ ds = kept_ok {P = λ j. dwords j ≡ ds} (kept_judged (layout (code t)) (makes_split m (layout (code t)) ds)) g in
           let n : length ds ≡ length (dwords (pieces t acc.exts acc.trees)) = ap length (sym dw ∙ ap dwords u) in
-          let tp : s.operands ≡ top_level acc.trees = sym (three m s ds b acc.trees hd.within items-are).top_is in
+          let tp : s.operands ≡ top_level acc.trees = sym (three m s ds b acc.trees hd.within items_are).top_is in
           let row_is : R ≡ instruction_row at row word (pieces t acc.exts acc.trees) =
-          eR ∙ (λ z. row_for (la.meaning z) t (sym exts-are z) at (n z) row (tp z) word (body-put.words_are z)) ∙ as_row at row word t acc.exts acc.trees in
+          eR ∙ (λ z. row_for (la.meaning z) t (sym exts_are z) at (n z) row (tp z) word (body_put.words_are z)) ∙ as_row at row word t acc.exts acc.trees in
           record {
             row_put = ei ∙ ap (λ (l : List ℕ). l ++ drop 16 is) (row_is ∙ ap (instruction_row at row word) (sym u));
-            put = subst (λ (l : List Tree). Put l row word L W a.rows a.words L' W') (sym (parts_are u)) body-put;
+            put = subst (λ (l : List Tree). Put l row word L W a.rows a.words L' W') (sym (parts_are u)) body_put;
           }
 
 -- a code not known
@@ -191,19 +191,19 @@ module _ (c : ℕ) (m : Bool) (ds : List ℕ) (t : ℕ) (et : t ≡ get_or ds 0 
   unfolding code_of
   code_is = ap code et
 
-  unread-is : read c m ds ≡ ok (unread ds)
-  unread-is = read_unknown c m ds (omega (arith, code_is))
+  unread_is : read c m ds ≡ ok (unread ds)
+  unread_is = read_unknown c m ds (omega (arith, code_is))
 
   pub unread_room : {rows ops ws at row word : ℕ} → Ready (read c m ds) ds rows ops ws at row word → UnreadRoom (length ds) rows ws
   unread_room q =
-      let v₀ : ok (unread ds) ≡ ok q.instruction = sym unread-is ∙ q.is in
+      let v₀ : ok (unread ds) ≡ ok q.instruction = sym unread_is ∙ q.is in
       let v : unread ds ≡ q.instruction = cc in
       let w : length (parts_words (parts q.instruction)) ≡ length ds = ap (λ (i : Instruction). length (parts_words (parts i))) (sym v) ∙ ap length (unread_words ds) in
       record { few = omega (arith, q.at_fits); for_row = q.for_row; for_words = omega (arith, q.for_words) }
 
   pub unread_written : {at row word : ℕ} {is ws is' ws' : List ℕ} {a : Sizes} (ops : List ℕ) → Unread ds (code t) at row word is ws a is' ws' → Written (read c m ds) at row word is ops ws a is' ops ws'
   unread_written {at} {row} {word} {is} {ws} {is'} {ws'} {a} ops u i g =
-      let v₀ : ok (unread ds) ≡ ok i = sym unread-is ∙ g in
+      let v₀ : ok (unread ds) ≡ ok i = sym unread_is ∙ g in
       let v : unread ds ≡ i = cc in
       subst (λ (j : Instruction). Stored j at row word is ops ws a is' ops ws') v
       (record {

@@ -11,7 +11,7 @@ use Rattle.format.specs.Dwords.{Got, malformed, got, then}
 use Rattle.format.specs.Declarations.{Item, o}
 use Rattle.format.specs.Operands as op
 use Rattle.format.specs.Operands.{Tree}
-use Rattle.format.specs.Instructions.{readItem, readItems}
+use Rattle.format.specs.Instructions.{read_item, read_items}
 use Rattle.format.specs.Rows.{tree_rows, tree_words, tree_table, parts_rows, parts_words, parts_table}
 use Rattle.format.proofs.Dwords.{impossible, All, unmet, met}
 use Rattle.format.proofs.Operands.{makes_operand}
@@ -34,24 +34,24 @@ pub record First (m : Bool) (i : Item) (l : List Item) (ds : List ℕ) (ps : Lis
   pub tree : Tree
   pub left : List ℕ
   pub more : List Tree
-  pub one : readItem m i ds ≡ got tree left
-  pub others : readItems m l left ≡ got more r
+  pub one : read_item m i ds ≡ got tree left
+  pub others : read_items m l left ≡ got more r
   pub all : ps ≡ tree ∷ more
 
-pub first_of : (m : Bool) (i : Item) (l : List Item) (ds : List ℕ) {ps : List Tree} {r : List ℕ} → readItems m (i ∷ l) ds ≡ got ps r → First m i l ds ps r
-unfolding readItems
-first_of m i l ds {ps} {r} e = go (readItem m i ds) refl e
+pub first_of : (m : Bool) (i : Item) (l : List Item) (ds : List ℕ) {ps : List Tree} {r : List ℕ} → read_items m (i ∷ l) ds ≡ got ps r → First m i l ds ps r
+unfolding read_items
+first_of m i l ds {ps} {r} e = go (read_item m i ds) refl e
   where
-    rest : (x : Tree) (left : List ℕ) → readItem m i ds ≡ got x left → (h : Got (List Tree)) → readItems m l left ≡ h → then h (λ qs s. got (x ∷ qs) s) ≡ got ps r → First m i l ds ps r
+    rest : (x : Tree) (left : List ℕ) → read_item m i ds ≡ got x left → (h : Got (List Tree)) → read_items m l left ≡ h → then h (λ qs s. got (x ∷ qs) s) ≡ got ps r → First m i l ds ps r
     rest x left p malformed q z = impossible (cc)
     rest x left p (got qs s) q z =
         let y : s ≡ r = cc in
         let w : x ∷ qs ≡ ps = cc in
         record { tree = x; left = left; more = qs; one = p; others = q ∙ ap (got qs) y; all = sym w }
 
-    go : (g : Got Tree) → readItem m i ds ≡ g → then g (λ x s. then (readItems m l s) (λ qs u. got (x ∷ qs) u)) ≡ got ps r → First m i l ds ps r
+    go : (g : Got Tree) → read_item m i ds ≡ g → then g (λ x s. then (read_items m l s) (λ qs u. got (x ∷ qs) u)) ≡ got ps r → First m i l ds ps r
     go malformed p z = impossible (cc)
-    go (got x left) p z = rest x left p (readItems m l left) refl z
+    go (got x left) p z = rest x left p (read_items m l left) refl z
 
 pub record Doing (ds : List ℕ) (from count row word : ℕ) (ops₀ ws₀ ops ws : List ℕ) (i k s d : ℕ) : Type 0 where
   pub room : Room (operands_of count (drop from ds)) (length ds) from (length ops₀) (length ws₀) row word
@@ -131,7 +131,7 @@ module _ {ds : List ℕ} {from count row word : ℕ} {ops₀ ws₀ ops ws : List
   t = head.tree
 
   read : op.operand 64 (drop (from + d) ds) ≡ got t head.left
-  read = unfold readItem in head.one
+  read = unfold read_item in head.one
 
   pub record Turn : Type 0 where
     pub within : from + d + length (op.dwords t) ≤ length ds
@@ -233,7 +233,7 @@ module _ {ds : List ℕ} {from count row word : ℕ} {ops₀ ws₀ ops ws : List
 
 pub ended : {ds : List ℕ} {from count row word : ℕ} {ops₀ ws₀ ops ws : List ℕ} {i k s d : ℕ} → Doing ds from count row word ops₀ ws₀ ops ws i k s d → count ≤ i → (a : Sums) → a.rows ≡ k → a.words ≡ s → a.dwords ≡ d
     → WroteRun (operands_of count (drop from ds)) row word ops₀ ws₀ a ops ws
-unfolding readItems
+unfolding read_items
 ended {ds} {from} {count} {row} {word} {ops₀} {ws₀} {ops} {ws} {i} {k} {s} {d} g h a e₀ e₁ e₂ ps r e =
     let z : count - i ≡ 0 = omega (arith, g.turn) in
     let n : operands_of 0 (drop (from + d) ds) ≡ got g.todo g.room.rest = sym (ap (λ (m : ℕ). operands_of m (drop (from + d) ds)) z) ∙ g.left in
@@ -260,14 +260,14 @@ module _ (ds : List ℕ) (from count row word : ℕ) (ops ws : List ℕ) (q : Ro
   abbrev one : Tree
   one = t start h
 
-  one-read : op.operand 64 (drop from ds) ≡ got one (head start h).left
-  one-read = let e : from ≡ from + 0 = omega arith in ap (λ (n : ℕ). op.operand 64 (drop n ds)) e ∙ read start h
+  one_read : op.operand 64 (drop from ds) ≡ got one (head start h).left
+  one_read = let e : from ≡ from + 0 = omega arith in ap (λ (n : ℕ). op.operand 64 (drop n ds)) e ∙ read start h
 
   pub one_room : ow.Room (op.operand 64 (drop from ds)) (length ops) (length ws) row word
   one_room = record {
     tree = one;
     rest = (head start h).left;
-    is = one-read;
+    is = one_read;
     for_rows = omega (arith, turn_of start h);
     for_words = omega (arith, turn_of start h);
     row_fits = omega (arith, turn_of start h);
@@ -276,10 +276,10 @@ module _ (ds : List ℕ) (from count row word : ℕ) (ops ws : List ℕ) (q : Ro
   }
 
   pub one_ran : {a : Sums} {ops' ws' : List ℕ} → count ≤ 1 → ow.Wrote (op.operand 64 (drop from ds)) row word ops ws a ops' ws' → WroteRun (operands_of count (drop from ds)) row word ops ws a ops' ws'
-  unfolding readItems parts_rows parts_words parts_table op.parts_dwords begin
+  unfolding read_items parts_rows parts_words parts_table op.parts_dwords begin
   one_ran {a} {ops'} {ws'} k wr ps r e =
       let f = head start h in
-      let p = wr one f.left one-read in
+      let p = wr one f.left one_read in
       let z : count - (0 + 1) ≡ 0 = omega arith in
       let n : operands_of 0 f.left ≡ got f.more q.rest = sym (ap (λ (m : ℕ). operands_of m f.left) z) ∙ f.others in
       let y : [] ≡ f.more = cc in

@@ -13,7 +13,7 @@ use Rattle.format.specs.Dwords.{Got, malformed, got, then, follows}
 use Rattle.format.specs.Declarations.{Item, o, d, small, s, tail, list}
 use Rattle.format.specs.Operands as op
 use Rattle.format.specs.Operands.{Tree, none, plain, node}
-use Rattle.format.specs.Instructions.{readItem, readItems}
+use Rattle.format.specs.Instructions.{read_item, read_items}
 use Rattle.format.specs.Rows.{tree_rows, tree_words, tree_table, parts_rows, parts_words, parts_table, top_level}
 use Rattle.format.proofs.Dwords.{All, unmet, met, all_then, all_if, makes_dword, some_length, chain_linked}
 use Rattle.format.proofs.Instructions.{makes_items}
@@ -62,59 +62,59 @@ plain_top (also x p) = plain_top p
 
 -- items that are dwords as they are
 data Flat : Item → Type 0 where
-  flat-d : Flat d
-  flat-small : Flat small
-  flat-s : Flat s
+  flat_d : Flat d
+  flat_small : Flat small
+  flat_s : Flat s
   flat_tail : Flat tail
-  flat-list : {b : ℕ} → Flat (list b)
+  flat_list : {b : ℕ} → Flat (list b)
 
 data Flats : List Item → Type 0 where
   no_items : Flats []
-  one-flat : {i : Item} {l : List Item} → Flat i → Flats l → Flats (i ∷ l)
+  one_flat : {i : Item} {l : List Item} → Flat i → Flats l → Flats (i ∷ l)
 
-flat_item : (m : Bool) {i : Item} → Flat i → (ds : List ℕ) → All (λ x r. IsPlain x) (readItem m i ds)
-unfolding readItem
-flat_item m flat-d ds = all_then (some_length 1 ds) (λ x r e. met (is_plain x))
-flat_item m flat-small ds = all_then (makes_dword ds) (λ x r e. all_if (ltb x 65_536) _ _ r (λ h. met (is_plain (x ∷ []))) (λ h. unmet))
-flat_item m flat-s ds = all_then (some_length (cond m 1 0) ds) (λ x r e. met (is_plain x))
+flat_item : (m : Bool) {i : Item} → Flat i → (ds : List ℕ) → All (λ x r. IsPlain x) (read_item m i ds)
+unfolding read_item
+flat_item m flat_d ds = all_then (some_length 1 ds) (λ x r e. met (is_plain x))
+flat_item m flat_small ds = all_then (makes_dword ds) (λ x r e. all_if (ltb x 65_536) _ _ r (λ h. met (is_plain (x ∷ []))) (λ h. unmet))
+flat_item m flat_s ds = all_then (some_length (cond m 1 0) ds) (λ x r e. met (is_plain x))
 flat_item m flat_tail ds = met (is_plain ds)
-flat_item m (flat-list {b}) ds = all_then (makes_dword ds) (λ n r e. all_then (some_length (n % 2 ^ b) r) (λ x q e₁. met (is_plain (n ∷ x))))
+flat_item m (flat_list {b}) ds = all_then (makes_dword ds) (λ n r e. all_then (some_length (n % 2 ^ b) r) (λ x q e₁. met (is_plain (n ∷ x))))
 
-flat_items : (m : Bool) {l : List Item} → Flats l → (ds : List ℕ) → All (λ ps r. Plain ps) (readItems m l ds)
-unfolding readItems
+flat_items : (m : Bool) {l : List Item} → Flats l → (ds : List ℕ) → All (λ ps r. Plain ps) (read_items m l ds)
+unfolding read_items
 flat_items m no_items ds = met nothing
-flat_items m (one-flat i l) ds = all_then (flat_item m i ds) (λ p r e. all_then (flat_items m l r) (λ ps q e₁. met (also_plain e e₁)))
+flat_items m (one_flat i l) ds = all_then (flat_item m i ds) (λ p r e. all_then (flat_items m l r) (λ ps q e₁. met (also_plain e e₁)))
 
 flats_append : {a b : List Item} → Flats a → Flats b → Flats (a ++ b)
 flats_append no_items q = q
-flats_append (one-flat i p) q = one-flat i (flats_append p q)
+flats_append (one_flat i p) q = one_flat i (flats_append p q)
 
 flats_many : {i : Item} → Flat i → (k : ℕ) → Flats (replicate k i)
 flats_many f zero = no_items
-flats_many f (suc k) = one-flat f (flats_many f k)
+flats_many f (suc k) = one_flat f (flats_many f k)
 
 flats_listed : (b : ℕ) → Flats (listed b)
 flats_listed b = go (eqb b 0)
   where
     go : (x : Bool) → Flats (cond x [] (list b ∷ []))
     go true = no_items
-    go false = one-flat flat-list no_items
+    go false = one_flat flat_list no_items
 
 flats_tailed : (b : Bool) → Flats (tailed b)
-flats_tailed true = one-flat flat_tail no_items
+flats_tailed true = one_flat flat_tail no_items
 flats_tailed false = no_items
 
 flats_rest : (x : Shape) → Flats (rest x)
 unfolding rest
-flats_rest x = flats_append (flats_many flat-small x.small) (flats_append (flats_many flat-d x.after) (flats_append (flats_many flat-s x.extra) (flats_append (flats_listed x.list) (flats_tailed x.tail))))
+flats_rest x = flats_append (flats_many flat_small x.small) (flats_append (flats_many flat_d x.after) (flats_append (flats_many flat_s x.extra) (flats_append (flats_listed x.list) (flats_tailed x.tail))))
 
 -- k dwords
-one_dword_lem : (m : Bool) (ds : List ℕ) → All (λ t r. length (op.dwords t) ≡ 1) (readItem m d ds)
-unfolding readItem op.dwords
+one_dword_lem : (m : Bool) (ds : List ℕ) → All (λ t r. length (op.dwords t) ≡ 1) (read_item m d ds)
+unfolding read_item op.dwords
 one_dword_lem m ds = all_then (some_length 1 ds) (λ x r e. met (ap length (append-nil x) ∙ e.1))
 
-dwords_many : (m : Bool) (k : ℕ) (ds : List ℕ) → All (λ ps r. length (op.parts_dwords ps) ≡ k) (readItems m (replicate k d) ds)
-unfolding readItems op.parts_dwords
+dwords_many : (m : Bool) (k : ℕ) (ds : List ℕ) → All (λ ps r. length (op.parts_dwords ps) ≡ k) (read_items m (replicate k d) ds)
+unfolding read_items op.parts_dwords
 dwords_many m zero ds = met refl
 dwords_many m (suc k) ds =
     all_then (one_dword_lem m ds) (λ p r e.
@@ -125,12 +125,12 @@ record Both (m : Bool) (a b : List Item) (ds : List ℕ) (ps : List Tree) (r : L
   front : List Tree
   behind : List Tree
   middle : List ℕ
-  one : readItems m a ds ≡ got front middle
-  two : readItems m b middle ≡ got behind r
+  one : read_items m a ds ≡ got front middle
+  two : read_items m b middle ≡ got behind r
   all : ps ≡ front ++ behind
 
-both_of : (m : Bool) (a b : List Item) (ds : List ℕ) {ps : List Tree} {r : List ℕ} → readItems m (a ++ b) ds ≡ got ps r → Both m a b ds ps r
-unfolding readItems
+both_of : (m : Bool) (a b : List Item) (ds : List ℕ) {ps : List Tree} {r : List ℕ} → read_items m (a ++ b) ds ≡ got ps r → Both m a b ds ps r
+unfolding read_items
 both_of m [] b ds {ps} e = record { front = []; behind = ps; middle = ds; one = refl; two = e; all = refl }
 both_of m (i ∷ a) b ds {ps} {r} e =
     let f = first_of m i (a ++ b) ds e in
@@ -149,14 +149,14 @@ pub then_same : (f h : List ℕ → Got (List Tree)) → ((r : List ℕ) → f r
 then_same f h e malformed = refl
 then_same f h e (got t r) = ap (λ (k : Got (List Tree)). then k (λ ps q. got (t ∷ ps) q)) (e r)
 
-either_model : (m : Bool) (k : ℕ) (ds : List ℕ) → readItems m (replicate k o) ds ≡ operands_of k ds
-unfolding readItems readItem
+either_model : (m : Bool) (k : ℕ) (ds : List ℕ) → read_items m (replicate k o) ds ≡ operands_of k ds
+unfolding read_items read_item
 either_model m zero ds = refl
-either_model m (suc k) ds = then_same (readItems m (replicate k o)) (operands_of k) (λ r. either_model m k r) (op.operand 64 ds)
+either_model m (suc k) ds = then_same (read_items m (replicate k o)) (operands_of k) (λ r. either_model m k r) (op.operand 64 ds)
 
 -- operands are nodes
 data Node : Tree → Type 0 where
-  is-node : {t : ℕ} {e i : List ℕ} {a b c : Tree} → Node (node t e i a b c)
+  is_node : {t : ℕ} {e i : List ℕ} {a b c : Tree} → Node (node t e i a b c)
 
 all_any : {A : Type 0} (g : Got A) → All (λ a r. ◌≡◌ {A = ℕ} 0 0) g
 all_any malformed = unmet
@@ -169,18 +169,18 @@ node_operand (suc k) ds =
     all_then (makes_dword ds) (λ t ds₁ e₁.
     all_then (chain_linked (follows t) ds₁) (λ e ds₂ e₂.
     all_if (op.immediate t) _ _ ds₂
-    (λ z. all_if (eqb (op.dimension t) 0) _ _ ds₂ (λ y. all_then (some_length (op.immediates t) ds₂) (λ i r e₃. met is-node)) (λ y. unmet))
+    (λ z. all_if (eqb (op.dimension t) 0) _ _ ds₂ (λ y. all_then (some_length (op.immediates t) ds₂) (λ i r e₃. met is_node)) (λ y. unmet))
     (λ z.
     all_then (all_any (op.read_index (op.operand k) (op.repr 0 t) ds₂)) (λ a r₁ e₃.
     all_then (all_any (op.read_index (op.operand k) (op.repr 1 t) r₁)) (λ b r₂ e₄.
-    all_then (all_any (op.read_index (op.operand k) (op.repr 2 t) r₂)) (λ c r₃ e₅. met is-node))))))
+    all_then (all_any (op.read_index (op.operand k) (op.repr 2 t) r₂)) (λ c r₃ e₅. met is_node))))))
 
 node_top : {t : Tree} (l : List Tree) → Node t → top_level (t ∷ l) ≡ 1 + top_level l
 unfolding top_level
-node_top l is-node = refl
+node_top l is_node = refl
 
 nodes_many : (k : ℕ) (ds : List ℕ) → All (λ ps r. top_level ps ≡ k) (operands_of k ds)
-unfolding readItems readItem top_level
+unfolding read_items read_item top_level
 nodes_many zero ds = met refl
 nodes_many (suc k) ds = all_then (node_operand 64 ds) (λ t r e. all_then (nodes_many k r) (λ ps q e₁. met (node_top ps e ∙ omega (arith, e₁))))
 
@@ -216,7 +216,7 @@ pub record Three (m : Bool) (x : Shape) (ds : List ℕ) (at : ℕ) (ps : List Tr
   pub behind_long : length (drop end ds) ≡ length ds - end
   pub words_long : length (parts_words ps) ≡ x.before + length (parts_words trees) + (length ds - end)
 
-pub three : (m : Bool) (x : Shape) (ds : List ℕ) (at : ℕ) (ps : List Tree) → at ≤ length ds → readItems m (items_of x) (drop at ds) ≡ got ps [] → Three m x ds at ps
+pub three : (m : Bool) (x : Shape) (ds : List ℕ) (at : ℕ) (ps : List Tree) → at ≤ length ds → read_items m (items_of x) (drop at ds) ≡ got ps [] → Three m x ds at ps
 unfolding items_of rest
 three m x ds at ps h e =
     let b₁ = both_of m (replicate x.before d) (replicate x.operands o ++ rest x) (drop at ds) e in
@@ -224,7 +224,7 @@ three m x ds at ps h e =
     let p₁ : List Tree = b₁.front in
     let p₂ : List Tree = b₂.front in
     let p₃ : List Tree = b₂.behind in
-    let f₁ : Plain p₁ = all_got (flat_items m (flats_many flat-d x.before) (drop at ds)) b₁.one in
+    let f₁ : Plain p₁ = all_got (flat_items m (flats_many flat_d x.before) (drop at ds)) b₁.one in
     let f₃ : Plain p₃ = all_got (flat_items m (flats_rest x) b₂.middle) b₂.two in
     let n₁ : length (op.parts_dwords p₁) ≡ x.before = all_got (dwords_many m x.before (drop at ds)) b₁.one in
     let m₁ : op.parts_dwords p₁ ++ b₁.middle ≡ drop at ds = all_got (makes_items m (replicate x.before d) (drop at ds)) b₁.one in
@@ -247,7 +247,7 @@ three m x ds at ps h e =
     record {
       trees = p₂;
       left = b₂.middle;
-      is = sym (either_model m x.operands (drop (at + x.before) ds)) ∙ ap (readItems m (replicate x.operands o)) (sym l₁) ∙ b₂.one;
+      is = sym (either_model m x.operands (drop (at + x.before) ds)) ∙ ap (read_items m (replicate x.operands o)) (sym l₁) ∙ b₂.one;
       end = at + x.before + length (op.parts_dwords p₂);
       end_is = refl;
       starts = h₁;
@@ -265,7 +265,7 @@ three m x ds at ps h e =
       words_long = ap length W ∙ length-append (take x.before (drop at ds) ++ parts_words p₂) _ ∙ omega (arith, length-append (take x.before (drop at ds)) (parts_words p₂), k₁, k₃);
     }
 
-module _ (m : Bool) (x : Shape) (ds : List ℕ) (at : ℕ) {ops ws row word : ℕ} (q : BodyRoom (readItems m (items_of x) (drop at ds)) (length ds) at ops ws row word) where
+module _ (m : Bool) (x : Shape) (ds : List ℕ) (at : ℕ) {ops ws row word : ℕ} (q : BodyRoom (read_items m (items_of x) (drop at ds)) (length ds) at ops ws row word) where
   pub split : Three m x ds at q.room.trees
   split = three m x ds at q.room.trees q.room.within (q.room.is ∙ ap (got q.room.trees) q.whole)
 
@@ -357,7 +357,7 @@ module _ (m : Bool) (x : Shape) (ds : List ℕ) (at : ℕ) {ops ws row word : �
         copy_room = let ll = lent_length f W₂ in let z = end_is in (omega (arith, known), omega (arith, known))
 
         pub written : (vs : List ℕ) → vs ≡ take k (drop e ds) ++ drop k (take (length W₂ - f) (drop f W₂)) → (z : Sizes) → z.rows ≡ a.rows → z.words ≡ f + k
-            → WroteBody (readItems m (items_of x) (drop at ds)) row word L W z L' (put_mid f (length W₂ - f) W₂ vs)
+            → WroteBody (read_items m (items_of x) (drop at ds)) row word L W z L' (put_mid f (length W₂ - f) W₂ vs)
         written vs ev z zr zw ps g =
             let y = end_is in
             let A : List ℕ = take x.before (drop at ds) ++ parts_words split.trees in
@@ -381,7 +381,7 @@ module _ (m : Bool) (x : Shape) (ds : List ℕ) (at : ℕ) {ops ws row word : �
 -- ---- the items of a shape without operands are all words
 flats_all : (x : Shape) → x.operands ≡ 0 → Flats (items_of x)
 unfolding items_of rest
-flats_all x e = rw e (flats_append (flats_many flat-d x.before) (flats_rest x))
+flats_all x e = rw e (flats_append (flats_many flat_d x.before) (flats_rest x))
 
 pub record Wordy (ds : List ℕ) (ps : List Tree) : Type 0 where
   pub rows_are : parts_rows ps ≡ 0
@@ -389,20 +389,20 @@ pub record Wordy (ds : List ℕ) (ps : List Tree) : Type 0 where
   pub table_is : (r w : ℕ) → parts_table r w ps ≡ []
 
 module _ (m : Bool) (x : Shape) (bare : x.operands ≡ 0) where
-  pub wordy : (ds : List ℕ) (ps : List Tree) → readItems m (items_of x) ds ≡ got ps [] → Wordy ds ps
+  pub wordy : (ds : List ℕ) (ps : List Tree) → read_items m (items_of x) ds ≡ got ps [] → Wordy ds ps
   wordy ds ps e =
       let f : Plain ps = all_got (flat_items m (flats_all x bare) ds) e in
       let w : op.parts_dwords ps ++ [] ≡ ds = all_got (makes_items m (items_of x) ds) e in
       record { rows_are = plain_rows f; words_are = plain_words f ∙ sym (append-nil (op.parts_dwords ps)) ∙ w; table_is = λ r k. plain_table r k f }
 
   module _ (ds : List ℕ) (at n : ℕ) (en : n ≡ length ds - at) where
-    pub words_room : {ops ws row word : ℕ} → BodyRoom (readItems m (items_of x) (drop at ds)) (length ds) at ops ws row word → (at + n ≤ length ds) × (n ≤ ws)
+    pub words_room : {ops ws row word : ℕ} → BodyRoom (read_items m (items_of x) (drop at ds)) (length ds) at ops ws row word → (at + n ≤ length ds) × (n ≤ ws)
     words_room q =
         let y = wordy (drop at ds) q.room.trees (q.room.is ∙ ap (got q.room.trees) q.whole) in
         let l : length (parts_words q.room.trees) ≡ length ds - at = ap length y.words_are ∙ length-drop at ds in
         (omega (arith, q.room.within), omega (arith, q.room.for_words))
 
-    pub words_wrote : {row word : ℕ} {W W' : List ℕ} {z : Sizes} (L : List ℕ) → z.rows ≡ 0 → z.words ≡ n → W' ≡ take n (drop at ds) ++ drop n W → WroteBody (readItems m (items_of x) (drop at ds)) row word L W z L W'
+    pub words_wrote : {row word : ℕ} {W W' : List ℕ} {z : Sizes} (L : List ℕ) → z.rows ≡ 0 → z.words ≡ n → W' ≡ take n (drop at ds) ++ drop n W → WroteBody (read_items m (items_of x) (drop at ds)) row word L W z L W'
     words_wrote {row} {word} {W} {W'} {z} L zr zw ew ps e =
         let y = wordy (drop at ds) ps e in
         let l : n ≡ length (drop at ds) = en ∙ sym (length-drop at ds) in
@@ -429,11 +429,11 @@ operands_in (list b ∷ l) = operands_in l
 flats_in : {a : List Item} (b : List Item) → Flats a → operands_in (a ++ b) ≡ operands_in b
 unfolding operands_in
 flats_in b no_items = refl
-flats_in b (one-flat flat-d l) = flats_in b l
-flats_in b (one-flat flat-small l) = flats_in b l
-flats_in b (one-flat flat-s l) = flats_in b l
-flats_in b (one-flat flat_tail l) = flats_in b l
-flats_in b (one-flat flat-list l) = flats_in b l
+flats_in b (one_flat flat_d l) = flats_in b l
+flats_in b (one_flat flat_small l) = flats_in b l
+flats_in b (one_flat flat_s l) = flats_in b l
+flats_in b (one_flat flat_tail l) = flats_in b l
+flats_in b (one_flat flat_list l) = flats_in b l
 
 operands_in_lem : (k : ℕ) (b : List Item) → operands_in (replicate k o ++ b) ≡ k + operands_in b
 unfolding operands_in
@@ -446,4 +446,4 @@ none_in {a} f = ap operands_in (sym (append-nil a)) ∙ flats_in [] f
 
 pub operands_are : (x : Shape) → operands_in (items_of x) ≡ x.operands
 unfolding items_of rest
-operands_are x = flats_in (replicate x.operands o ++ rest x) (flats_many flat-d x.before) ∙ operands_in_lem x.operands (rest x) ∙ omega (arith, none_in (flats_rest x))
+operands_are x = flats_in (replicate x.operands o ++ rest x) (flats_many flat_d x.before) ∙ operands_in_lem x.operands (rest x) ∙ omega (arith, none_in (flats_rest x))

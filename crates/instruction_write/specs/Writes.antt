@@ -8,7 +8,7 @@ use Rattle.format.specs.Counts.{operand_count, of_type, type_bits, rising}
 use Rattle.format.specs.Declarations.{Item, Layout, o}
 use Rattle.format.specs.Operands as op
 use Rattle.format.specs.Operands.{Tree}
-use Rattle.format.specs.Instructions.{Instruction, Reading, ok, readItems, read, fields_of, extensions}
+use Rattle.format.specs.Instructions.{Instruction, Reading, ok, read_items, read, fields_of, extensions}
 use Rattle.format.specs.Rows.{parts_rows, parts_words, parts_table, parts, instruction_row}
 use Rattle.layouts.specs.declared.Shape.{Shape}
 use Rattle.layouts.specs.Shapes.{Sound, Laid, meant, items_of}
@@ -92,7 +92,7 @@ pub record Unread (ds : List ℕ) (c at row word : ℕ) (is ws : List ℕ) (a : 
 
 -- so many operands
 abbrev pub operands_of : ℕ → Reader (List Tree)
-operands_of k = readItems false (replicate k o)
+operands_of k = read_items false (replicate k o)
 
 -- trees were read of n dwords, and there is room for them in pools of so many numbers, whose first stand at row and word
 pub record Room (g : Got (List Tree)) (n at ops ws row word : ℕ) : Type 0 where

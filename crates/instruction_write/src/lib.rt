@@ -330,8 +330,8 @@ fn write_counted_parts(
     row: usize,
     word: usize,
 ) -> Sizes
-    requires { w.BodyRoom (ins.readItems false (w.counted_items n) (drop at (dwords_of part.now))) (length (dwords_of part.now)) at (length operands.old) (length words.old) row word }
-    ensures { w.WroteBody (ins.readItems false (w.counted_items n) (drop at (dwords_of part.now))) row word operands.old words.old result operands.new words.new }
+    requires { w.BodyRoom (ins.read_items false (w.counted_items n) (drop at (dwords_of part.now))) (length (dwords_of part.now)) at (length operands.old) (length words.old) row word }
+    ensures { w.WroteBody (ins.read_items false (w.counted_items n) (drop at (dwords_of part.now))) row word operands.old words.old result operands.new words.new }
 {
     let x = write_operands(part, at, n, operands, &mut words[0..], row, word);
     let end = at + x.dwords;
@@ -401,8 +401,8 @@ fn write_parts(
     row: usize,
     word: usize,
 ) -> Sizes
-    requires { w.BodyRoom (ins.readItems model51 (items_of s) (drop at (dwords_of part.now))) (length (dwords_of part.now)) at (length operands.old) (length words.old) row word × (s.operands ≤ 1) }
-    ensures { w.WroteBody (ins.readItems model51 (items_of s) (drop at (dwords_of part.now))) row word operands.old words.old result operands.new words.new }
+    requires { w.BodyRoom (ins.read_items model51 (items_of s) (drop at (dwords_of part.now))) (length (dwords_of part.now)) at (length operands.old) (length words.old) row word × (s.operands ≤ 1) }
+    ensures { w.WroteBody (ins.read_items model51 (items_of s) (drop at (dwords_of part.now))) row word operands.old words.old result operands.new words.new }
 {
     let before = wide(s.before);
     copy(part, at, before, words);

@@ -127,11 +127,11 @@ or_later : (k : ℕ) (ks : List ℕ) (c : ℕ) → OneOf (k ∷ ks) c → within
 unfolding within
 or_later k [] c e = rw (eq-eqb c k e)
 or_later k (j ∷ ks) c (inl e) = rw (eq-eqb c k e)
-or_later k (j ∷ ks) c (inr r) = rw (or_later j ks c r) (or-true (eqb c k))
+or_later k (j ∷ ks) c (inr r) = rw (or_later j ks c r) (or_true (eqb c k))
   where
-    or-true : (b : Bool) → (b || true) ≡ true
-    or-true true = refl
-    or-true false = refl
+    or_true : (b : Bool) → (b || true) ≡ true
+    or_true true = refl
+    or_true false = refl
 
 a_key : (ks : List ℕ) (c : ℕ) → OneOf ks c → within c ks ≡ true
 a_key [] c h = absurd h

@@ -47,9 +47,9 @@ and_trues false q = refl
 
 -- the two readers, a step in
 module _ (left : ℕ) (ds : List ℕ) (at : ℕ) where
-  front-some : (left ≡ 0 → ⊥) → at < length ds → front left (drop at ds) ≡ then (chain (follows (get_or ds at 0)) (drop (at + 1) ds)) (λ e. give (get_or ds at 0, e))
+  front_some : (left ≡ 0 → ⊥) → at < length ds → front left (drop at ds) ≡ then (chain (follows (get_or ds at 0)) (drop (at + 1) ds)) (λ e. give (get_or ds at 0, e))
   unfolding front
-  front-some h l = go left h
+  front_some h l = go left h
     where
       go : (k : ℕ) → (k ≡ 0 → ⊥) → front k (drop at ds) ≡ then (chain (follows (get_or ds at 0)) (drop (at + 1) ds)) (λ e. give (get_or ds at 0, e))
       go zero h = absurd (h refl)
@@ -86,7 +86,7 @@ module _ (left : ℕ) (ds : List ℕ) (at : ℕ) where
   -- the code's steps
   module _ (h : left ≡ 0 → ⊥) (l : at < length ds) (t : ℕ) (et : t ≡ get_or ds at 0) (m : Bool) (em : m ≡ follows t) where
     pub front_off : Off ≡ ends (at + 1) (chain m (drop (at + 1) ds)) → Short ≡ fronted at (front left (drop at ds))
-    front_off e = sym (ap (fronted at) (front-some h l) ∙ rw (← et, ← em, ran_off (at + 1) (chain m (drop (at + 1) ds)) e))
+    front_off e = sym (ap (fronted at) (front_some h l) ∙ rw (← et, ← em, ran_off (at + 1) (chain m (drop (at + 1) ds)) e))
 
     pub front_passed : (b : ℕ) → To b ≡ ends (at + 1) (chain m (drop (at + 1) ds)) → Passed m ds (at + 1) b
     front_passed b e = passed m ds (at + 1) b (omega arith) e
@@ -95,7 +95,7 @@ module _ (left : ℕ) (ds : List ℕ) (at : ℕ) where
     front_read b w x y z ex ey ez =
         let q : b ≡ at + 1 + length (slice (at + 1) b ds) = omega (arith, length-slice (at + 1) b ds w.within, w.from) in
         let eq : z ≡ (exact_dword t && exact_extension (slice (at + 1) b ds)) = cc in
-        (λ i. At t (q i) (eq i)) ∙ sym (ap (fronted at) (front-some h l) ∙ rw (← et, ← em, w.is))
+        (λ i. At t (q i) (eq i)) ∙ sym (ap (fronted at) (front_some h l) ∙ rw (← et, ← em, w.is))
 
 -- an operand's dword t at a place is read, and its extensions are passed: its body is at b
 pub record Opened (left : ℕ) (ds : List ℕ) (at t b : ℕ) (x : Bool) : Type 0 where
@@ -115,7 +115,7 @@ module _ (left : ℕ) (ds : List ℕ) (at : ℕ) where
       go false q = let z : At t b x ≡ Short = e ∙ sym (front_end left ds at (ltb-false at (length ds) q)) in impossible (cc)
 
   pub opened : (t b : ℕ) (x : Bool) → At t b x ≡ fronted at (front left (drop at ds)) → Opened left ds at t b x
-  opened t b x e = let h = deeper t b x e in let l = before t b x e in go h l (chain (follows (get_or ds at 0)) (drop (at + 1) ds)) refl (e ∙ ap (fronted at) (front-some left ds at h l))
+  opened t b x e = let h = deeper t b x e in let l = before t b x e in go h l (chain (follows (get_or ds at 0)) (drop (at + 1) ds)) refl (e ∙ ap (fronted at) (front_some left ds at h l))
     where
       go : (left ≡ 0 → ⊥) → at < length ds → (g : Got (List ℕ)) → chain (follows (get_or ds at 0)) (drop (at + 1) ds) ≡ g → At t b x ≡ fronted at (then g (λ y. give (get_or ds at 0, y))) → Opened left ds at t b x
       go h l malformed q z = impossible (cc)
@@ -137,19 +137,19 @@ module _ (left : ℕ) (ds : List ℕ) (at : ℕ) where
 
   pub shut : Short ≡ fronted at (front left (drop at ds)) → operand left (drop at ds) ≡ malformed
   unfolding operand
-  shut e = at-depth left refl
+  shut e = at_depth left refl
     where
       at_length : (left ≡ 0 → ⊥) → (c : Bool) → ltb at (length ds) ≡ c → operand left (drop at ds) ≡ malformed
-      at_length h true q = go (chain (follows (get_or ds at 0)) (drop (at + 1) ds)) refl (e ∙ ap (fronted at) (front-some left ds at h (ltb-true at (length ds) q)))
+      at_length h true q = go (chain (follows (get_or ds at 0)) (drop (at + 1) ds)) refl (e ∙ ap (fronted at) (front_some left ds at h (ltb-true at (length ds) q)))
         where
           go : (g : Got (List ℕ)) → chain (follows (get_or ds at 0)) (drop (at + 1) ds) ≡ g → Short ≡ fronted at (then g (λ y. give (get_or ds at 0, y))) → operand left (drop at ds) ≡ malformed
           go malformed p z = operand_some left ds at h (ltb-true at (length ds) q) ∙ rw p
           go (got y r) p z = impossible (cc)
       at_length h false q = operand_end left ds at (ltb-false at (length ds) q)
 
-      at-depth : (k : ℕ) → left ≡ k → operand left (drop at ds) ≡ malformed
-      at-depth zero z = rw z
-      at-depth (suc k) z = at_length (λ y. omega arith) (ltb at (length ds)) refl
+      at_depth : (k : ℕ) → left ≡ k → operand left (drop at ds) ≡ malformed
+      at_depth zero z = rw z
+      at_depth (suc k) z = at_length (λ y. omega arith) (ltb at (length ds)) refl
 
 -- an operand of immediates
 module _ {ds : List ℕ} {at t b : ℕ} {x : Bool} (s : Stands ds at t b x) (d : ℕ) (ed : d ≡ dimension t) where

@@ -33,21 +33,21 @@ module _ (p : Reader Tree) (q : Confirmer) (hp : (ds : List ℕ) → All (λ x r
   abbrev child : Bool → Confirmer
   child b rs ws r w = cond b (q rs ws r w) (just none)
 
-  whole-child : (b : Bool) (ds : List ℕ) → All (λ x r. Whole (child b) x) (cond b p (reader.give none) ds)
-  whole-child true ds = hp ds
-  whole-child false ds = met (λ e r w R W. refl)
+  whole_child : (b : Bool) (ds : List ℕ) → All (λ x r. Whole (child b) x) (cond b p (reader.give none) ds)
+  whole_child true ds = hp ds
+  whole_child false ds = met (λ e r w R W. refl)
 
-  index-step : (i : ℕ) (x : List ℕ) (c : Tree) → known i ≡ true → length x ≡ own i → Whole (child (nests i)) c → Whole (confirm_index q i) (plain x c)
+  index_step : (i : ℕ) (x : List ℕ) (c : Tree) → known i ≡ true → length x ≡ own i → Whole (child (nests i)) c → Whole (confirm_index q i) (plain x c)
   unfolding confirm_index tree_table tree_words op.exact
-  index-step i x c k e f h r w R W =
+  index_step i x c k e f h r w R W =
       rw (append_assoc x (tree_words c) W, k, enough (own i) x (tree_words c ++ W) e, take_at x (tree_words c ++ W) (own i) e, drop_at x (tree_words c ++ W) (own i) e, e, f h r (w + own i) R W)
 
   pub whole_index : (i : ℕ) (ds : List ℕ) → All (λ x r. Whole (confirm_index q i) x) (read_index p i ds)
   unfolding read_index
   whole_index i ds = all_if (known i) _ _ ds
       (λ k. all_then (some_length (own i) ds) (λ x ds₁ e₁.
-      all_then (whole-child (nests i) ds₁) (λ c ds₂ f.
-      met (index-step i x c k e₁.1 f))))
+      all_then (whole_child (nests i) ds₁) (λ c ds₂ f.
+      met (index_step i x c k e₁.1 f))))
       (λ k. unmet)
 
 -- ---- an operand

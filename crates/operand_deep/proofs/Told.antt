@@ -39,18 +39,18 @@ module _ (c s k d p x : ℕ) (hc : c < 16) where
   low_count : sum % 2 ^ 2 ≡ c % 4
   low_count = omega arith
 
-  low-mode : bits 2 3 sum ≡ c / 4
-  low-mode = let z : sum / 2 ^ 2 ≡ c / 4 + s * 4 + k * 1024 + d * 262_144 + p * 1_048_576 + x * 536_870_912 = omega arith in rw z (omega arith)
+  low_mode : bits 2 3 sum ≡ c / 4
+  low_mode = let z : sum / 2 ^ 2 ≡ c / 4 + s * 4 + k * 1024 + d * 262_144 + p * 1_048_576 + x * 536_870_912 = omega arith in rw z (omega arith)
 
   above_low : sum / 2 ^ 4 ≡ s + k * 256 + d * 65_536 + p * 262_144 + x * 134_217_728
   above_low = omega arith
 
 form_is : (f s k d p x : ℕ) → s < selections f → form (op.dword_with f s k d p x) ≡ f
-form_is zero s k d p x h = form_of _ 0 0 (low_count 0 s k d p x (omega arith)) (low-mode 0 s k d p x (omega arith))
-form_is (suc zero) s k d p x h = form_of _ 1 0 (low_count 1 s k d p x (omega arith)) (low-mode 1 s k d p x (omega arith))
-form_is (suc (suc zero)) s k d p x h = form_of _ 2 0 (low_count 2 s k d p x (omega arith)) (low-mode 2 s k d p x (omega arith))
-form_is (suc (suc (suc zero))) s k d p x h = form_of _ 2 1 (low_count 6 s k d p x (omega arith)) (low-mode 6 s k d p x (omega arith))
-form_is (suc (suc (suc (suc zero)))) s k d p x h = form_of _ 2 2 (low_count 10 s k d p x (omega arith)) (low-mode 10 s k d p x (omega arith))
+form_is zero s k d p x h = form_of _ 0 0 (low_count 0 s k d p x (omega arith)) (low_mode 0 s k d p x (omega arith))
+form_is (suc zero) s k d p x h = form_of _ 1 0 (low_count 1 s k d p x (omega arith)) (low_mode 1 s k d p x (omega arith))
+form_is (suc (suc zero)) s k d p x h = form_of _ 2 0 (low_count 2 s k d p x (omega arith)) (low_mode 2 s k d p x (omega arith))
+form_is (suc (suc (suc zero))) s k d p x h = form_of _ 2 1 (low_count 6 s k d p x (omega arith)) (low_mode 6 s k d p x (omega arith))
+form_is (suc (suc (suc (suc zero)))) s k d p x h = form_of _ 2 2 (low_count 10 s k d p x (omega arith)) (low_mode 10 s k d p x (omega arith))
 form_is (suc (suc (suc (suc (suc f))))) s k d p x h = impossible (omega arith)
 
 selection_is : (f s k d p x : ℕ) → s < selections f → selection (op.dword_with f s k d p x) ≡ s
@@ -78,17 +78,17 @@ module _ (l k d p x : ℕ) (hl : l < 2 ^ 12) (hk : k < 2 ^ 8) (hd : d < 4) (hp :
   abbrev upper : ℕ
   upper = l + k * 2 ^ 12 + d * 2 ^ 20 + p * 2 ^ 22 + x * 2 ^ 31
 
-  upper-type : upper / 2 ^ 12 % 2 ^ 8 ≡ k
-  upper-type = let z : upper / 2 ^ 12 ≡ k + d * 256 + p * 1024 + x * 524_288 = omega arith in rw z (omega arith)
+  upper_type : upper / 2 ^ 12 % 2 ^ 8 ≡ k
+  upper_type = let z : upper / 2 ^ 12 ≡ k + d * 256 + p * 1024 + x * 524_288 = omega arith in rw z (omega arith)
 
-  upper-dimension : upper / 2 ^ 20 % 2 ^ 2 ≡ d
-  upper-dimension = let z : upper / 2 ^ 20 ≡ d + p * 4 + x * 2048 = omega arith in rw z (omega arith)
+  upper_dimension : upper / 2 ^ 20 % 2 ^ 2 ≡ d
+  upper_dimension = let z : upper / 2 ^ 20 ≡ d + p * 4 + x * 2048 = omega arith in rw z (omega arith)
 
-  upper-reprs : upper / 2 ^ 22 ≡ p + x * 512
-  upper-reprs = omega arith
+  upper_reprs : upper / 2 ^ 22 ≡ p + x * 512
+  upper_reprs = omega arith
 
-  upper-high : (upper / 2 ^ 25 ≡ p / 8 + x * 64) × (upper / 2 ^ 28 ≡ p / 64 + x * 8) × (upper / 2 ^ 31 ≡ x)
-  upper-high = (omega arith, omega arith, omega arith)
+  upper_high : (upper / 2 ^ 25 ≡ p / 8 + x * 64) × (upper / 2 ^ 28 ≡ p / 64 + x * 8) × (upper / 2 ^ 31 ≡ x)
+  upper_high = (omega arith, omega arith, omega arith)
 
 -- representations of so many indices
 few_reprs : (p d : ℕ) → d < 4 → p < 2 ^ (3 * d) → p < 2 ^ 9
@@ -108,10 +108,10 @@ these_reprs p x (suc (suc (suc (suc d)))) h l = impossible (omega arith)
 record Parts (t f s k d p : ℕ) : Type 0 where
   form_is : form t ≡ f
   selection_is : selection t ≡ s
-  type-is : type_of t ≡ k
-  dimension-is : dimension t ≡ d
+  type_is : type_of t ≡ k
+  dimension_is : dimension t ≡ d
   reprs_are : reprs t ≡ p
-  repr-is : (i : ℕ) → i < 3 → repr i t ≡ cond (ltb i d) (p / 2 ^ (3 * i) % 2 ^ 3) 8
+  repr_is : (i : ℕ) → i < 3 → repr i t ≡ cond (ltb i d) (p / 2 ^ (3 * i) % 2 ^ 3) 8
   exact_is : exact_dword t ≡ true
 
 module _ (f s k d p x : ℕ) (hs : s < selections f) (hk : k < 2 ^ 8) (hd : d < 4) (hp : p < 2 ^ (3 * d)) (hx : x < 2) where
@@ -121,36 +121,36 @@ module _ (f s k d p x : ℕ) (hs : s < selections f) (hk : k < 2 ^ 8) (hd : d < 
   hp₉ : p < 2 ^ 9
   hp₉ = few_reprs p d hd hp
 
-  type-is : type_of t ≡ k
-  type-is = upper-type _ k d p x (low_below f s hs) hk hd hp₉ hx
+  type_is : type_of t ≡ k
+  type_is = upper_type _ k d p x (low_below f s hs) hk hd hp₉ hx
 
-  dimension-is : dimension t ≡ d
-  dimension-is = upper-dimension _ k d p x (low_below f s hs) hk hd hp₉ hx
+  dimension_is : dimension t ≡ d
+  dimension_is = upper_dimension _ k d p x (low_below f s hs) hk hd hp₉ hx
 
   first_is : t / 2 ^ 22 ≡ p + x * 512
-  first_is = upper-reprs _ k d p x (low_below f s hs) hk hd hp₉ hx
+  first_is = upper_reprs _ k d p x (low_below f s hs) hk hd hp₉ hx
 
   high_is : (t / 2 ^ 25 ≡ p / 8 + x * 64) × (t / 2 ^ 28 ≡ p / 64 + x * 8) × (t / 2 ^ 31 ≡ x)
-  high_is = upper-high _ k d p x (low_below f s hs) hk hd hp₉ hx
+  high_is = upper_high _ k d p x (low_below f s hs) hk hd hp₉ hx
 
   reprs_are : reprs t ≡ p
   unfolding reprs
-  reprs_are = rw (dimension-is, first_is) (these_reprs p x d hd hp)
+  reprs_are = rw (dimension_is, first_is) (these_reprs p x d hd hp)
 
   -- the representation of each index that there is
-  repr-is : (i : ℕ) → i < 3 → repr i t ≡ cond (ltb i d) (p / 2 ^ (3 * i) % 2 ^ 3) 8
+  repr_is : (i : ℕ) → i < 3 → repr i t ≡ cond (ltb i d) (p / 2 ^ (3 * i) % 2 ^ 3) 8
   unfolding repr
-  repr-is zero h = let z : (p + x * 512) % 2 ^ 3 ≡ p / 2 ^ 0 % 2 ^ 3 = omega arith in rw (dimension-is, first_is, z)
-  repr-is (suc zero) h = let z : (p / 8 + x * 64) % 2 ^ 3 ≡ p / 2 ^ 3 % 2 ^ 3 = omega arith in rw (dimension-is, high_is.0, z)
-  repr-is (suc (suc zero)) h = let z : (p / 64 + x * 8) % 2 ^ 3 ≡ p / 2 ^ 6 % 2 ^ 3 = omega arith in rw (dimension-is, high_is.1, z)
-  repr-is (suc (suc (suc i))) h = impossible (omega arith)
+  repr_is zero h = let z : (p + x * 512) % 2 ^ 3 ≡ p / 2 ^ 0 % 2 ^ 3 = omega arith in rw (dimension_is, first_is, z)
+  repr_is (suc zero) h = let z : (p / 8 + x * 64) % 2 ^ 3 ≡ p / 2 ^ 3 % 2 ^ 3 = omega arith in rw (dimension_is, high_is.0, z)
+  repr_is (suc (suc zero)) h = let z : (p / 64 + x * 8) % 2 ^ 3 ≡ p / 2 ^ 6 % 2 ^ 3 = omega arith in rw (dimension_is, high_is.1, z)
+  repr_is (suc (suc (suc i))) h = impossible (omega arith)
 
   exact_is : exact_dword t ≡ true
   unfolding exact_dword
-  exact_is = let z : x % 2 ^ 1 ≡ x = omega arith in eq-eqb t _ (sym (rw (form_is f s k d p x hs, selection_is f s k d p x hs, type-is, dimension-is, reprs_are, high_is.2, z)))
+  exact_is = let z : x % 2 ^ 1 ≡ x = omega arith in eq-eqb t _ (sym (rw (form_is f s k d p x hs, selection_is f s k d p x hs, type_is, dimension_is, reprs_are, high_is.2, z)))
 
   parts : Parts t f s k d p
-  parts = record { form_is = form_is f s k d p x hs; selection_is = selection_is f s k d p x hs; type-is = type-is; dimension-is = dimension-is; reprs_are = reprs_are; repr-is = repr-is; exact_is = exact_is }
+  parts = record { form_is = form_is f s k d p x hs; selection_is = selection_is f s k d p x hs; type_is = type_is; dimension_is = dimension_is; reprs_are = reprs_are; repr_is = repr_is; exact_is = exact_is }
 
 -- ---- the extension of signs, if there are any
 record Signs (v : ℕ) : Type 0 where
@@ -237,28 +237,28 @@ module _ (rs : List ℕ) (r : ℕ) (g : Told (drop (16 * r) rs)) where
   pub row_there : 16 * r + 16 ≤ length rs
   row_there = omega (arith, g.long, length-drop (16 * r) rs)
 
-  guess-is : Of (dword_of q) x ≡ guessed (operand_dword (row_at r rs)) (extension_of (at 3 (row_at r rs)))
+  guess_is : Of (dword_of q) x ≡ guessed (operand_dword (row_at r rs)) (extension_of (at 3 (row_at r rs)))
   unfolding guessed operand_dword numbers_at
-  guess-is = rw (listed 16 0 q g.long, its.exact_is, (signs (at 3 q) g.signs).exact)
+  guess_is = rw (listed 16 0 q g.long, its.exact_is, (signs (at 3 q) g.signs).exact)
 
   pub repr_of : {d p : ℕ} → at 6 q ≡ d → at 7 q ≡ p → (i : ℕ) → i < 3 → cond (ltb i d) (p / 2 ^ (3 * i) % 2 ^ 3) 8 ≡ repr i (dword_of q)
-  repr_of ed ep i h = sym (its.repr-is i h ∙ (λ j. cond (ltb i (ed j)) (ep j / 2 ^ (3 * i) % 2 ^ 3) 8))
+  repr_of ed ep i h = sym (its.repr_is i h ∙ (λ j. cond (ltb i (ed j)) (ep j / 2 ^ (3 * i) % 2 ^ 3) 8))
 
   front_same_lem : (i m : ℕ) → at 4 q ≡ placed (ltb 0 m) i → at 5 q ≡ m → true ≡ front_same rs r (dword_of q) x i m
   unfolding front_for numbers_at
   front_same_lem i m e₄ e₅ =
-      let e₀ = sym its.type-is in
+      let e₀ = sym its.type_is in
       let e₁ = sym its.form_is in
       let e₂ = sym its.selection_is in
       let e₃ : at 3 q ≡ op.modifiers (extensions x) = sym (ap op.modifiers (again (at 3 q)) ∙ (signs (at 3 q) g.signs).again) in
-      let e₆ = sym its.dimension-is in
+      let e₆ = sym its.dimension_is in
       let e₇ = sym its.reprs_are in
       sym (same_of _ _ (listed 8 0 q (omega (arith, g.long)) ∙ (λ j. e₀ j ∷ e₁ j ∷ e₂ j ∷ e₃ j ∷ e₄ j ∷ e₅ j ∷ e₆ j ∷ e₇ j ∷ [])))
 
-  back-same : (a b c : Place) (rows ds : ℕ) → at 8 q ≡ word_place (repr 0 (dword_of q)) a.1 → at 9 q ≡ word_place (repr 1 (dword_of q)) b.1 → at 10 q ≡ word_place (repr 2 (dword_of q)) c.1 →
+  back_same_lem : (a b c : Place) (rows ds : ℕ) → at 8 q ≡ word_place (repr 0 (dword_of q)) a.1 → at 9 q ≡ word_place (repr 1 (dword_of q)) b.1 → at 10 q ≡ word_place (repr 2 (dword_of q)) c.1 →
       at 11 q ≡ child_row (repr 0 (dword_of q)) a.0 → at 12 q ≡ child_row (repr 1 (dword_of q)) b.0 → at 13 q ≡ child_row (repr 2 (dword_of q)) c.0 → at 14 q ≡ rows → at 15 q ≡ ds → true ≡ back_same rs r (dword_of q) a b c rows ds
   unfolding back_for numbers_at
-  back-same a b c rows ds e₈ e₉ e₁₀ e₁₁ e₁₂ e₁₃ e₁₄ e₁₅ =
+  back_same_lem a b c rows ds e₈ e₉ e₁₀ e₁₁ e₁₂ e₁₃ e₁₄ e₁₅ =
       sym (same_of _ _ (listed 8 8 q (omega (arith, g.long)) ∙ (λ j. e₈ j ∷ e₉ j ∷ e₁₀ j ∷ e₁₁ j ∷ e₁₂ j ∷ e₁₃ j ∷ e₁₄ j ∷ e₁₅ j ∷ [])))
 
   module _ (left : ℕ) (hl : left ≡ 0 → ⊥) (ws : List ℕ) (w : ℕ) where
@@ -268,10 +268,10 @@ module _ (rs : List ℕ) (r : ℕ) (g : Told (drop (16 * r) rs)) where
         at 14 q ≡ r₃ - r → at 15 q ≡ 1 + extras q + d₀ + d₁ + d₂ → Is (r₃ - r) (w₃ - w) (1 + extras q + d₀ + d₁ + d₂) ≡ walked (there (confirm left) rs ws r w)
     unfolding immediate
     indices_walk k e₄ e₅ {i₀} {i₁} {i₂} f₀ f₁ f₂ {r₁} {w₁} {d₀} {r₂} {w₂} {d₁} a b c er ed =
-        let z : immediate (dword_of q) ≡ false = rw (its.type-is, kind_no (at 0 q) k) in
+        let z : immediate (dword_of q) ≡ false = rw (its.type_is, kind_no (at 0 q) k) in
         let y : extras q ≡ length (extensions x) = ap length (sym (again (at 3 q))) in
-        let u = back-same (r + 1, w) (r₁, w₁) (r₂, w₂) _ _ (a.place ∙ (λ j. word_place (f₀ j) w)) (b.place ∙ (λ j. word_place (f₁ j) w₁)) (c.place ∙ (λ j. word_place (f₂ j) w₂)) (a.child ∙ (λ j. child_row (f₀ j) (r + 1))) (b.child ∙ (λ j. child_row (f₁ j) r₁)) (c.child ∙ (λ j. child_row (f₂ j) r₂)) er ed in
-        by_tree left rs ws r w hl (omega (arith, row_there)) (dword_of q) x guess-is false (sym z) refl
+        let u = back_same_lem (r + 1, w) (r₁, w₁) (r₂, w₂) _ _ (a.place ∙ (λ j. word_place (f₀ j) w)) (b.place ∙ (λ j. word_place (f₁ j) w₁)) (c.place ∙ (λ j. word_place (f₂ j) w₂)) (a.child ∙ (λ j. child_row (f₀ j) (r + 1))) (b.child ∙ (λ j. child_row (f₁ j) r₁)) (c.child ∙ (λ j. child_row (f₂ j) r₂)) er ed in
+        by_tree left rs ws r w hl (omega (arith, row_there)) (dword_of q) x guess_is false (sym z) refl
         (tree_yes (left - 1) rs ws r w (dword_of q) x row_there i₀ f₀ a.step i₁ f₁ b.step i₂ f₂ c.step (extras q) y true (front_same_lem w 0 e₄ e₅) refl true u refl)
 
     -- with m immediates
@@ -279,15 +279,15 @@ module _ (rs : List ℕ) (r : ℕ) (g : Told (drop (16 * r) rs)) where
         Is 1 m (at 15 q) ≡ walked (there (confirm left) rs ws r w)
     unfolding immediate immediates own nests
     immediates_walk k {m} em hm l e₄ e₅ e₆ e₈ e₁₀ e₁₂ e₁₄ e₁₅ =
-        let z : immediate (dword_of q) ≡ true = rw (its.type-is, kind_yes (at 0 q) k) in
+        let z : immediate (dword_of q) ≡ true = rw (its.type_is, kind_yes (at 0 q) k) in
         let y : extras q ≡ length (extensions x) = ap length (sym (again (at 3 q))) in
         let p : true ≡ ltb 0 m = sym (lt-ltb 0 m hm) in
         let f₀ : 8 ≡ repr 0 (dword_of q) = repr_of e₆.0 e₆.1 0 (omega arith) in
         let f₁ : 8 ≡ repr 1 (dword_of q) = repr_of e₆.0 e₆.1 1 (omega arith) in
         let f₂ : 8 ≡ repr 2 (dword_of q) = repr_of e₆.0 e₆.1 2 (omega arith) in
-        let u = back-same (r + 1, w + m) (r + 1, w + m) (r + 1, w + m) _ _ (e₈.0 ∙ (λ j. word_place (f₀ j) (w + m))) (e₈.1 ∙ (λ j. word_place (f₁ j) (w + m))) (e₁₀.0 ∙ (λ j. word_place (f₂ j) (w + m))) (e₁₀.1 ∙ (λ j. child_row (f₀ j) (r + 1))) (e₁₂.0 ∙ (λ j. child_row (f₁ j) (r + 1))) (e₁₂.1 ∙ (λ j. child_row (f₂ j) (r + 1))) e₁₄ e₁₅ in
-        let d : at 6 q ≡ dimension (dword_of q) = sym its.dimension-is in
+        let u = back_same_lem (r + 1, w + m) (r + 1, w + m) (r + 1, w + m) _ _ (e₈.0 ∙ (λ j. word_place (f₀ j) (w + m))) (e₈.1 ∙ (λ j. word_place (f₁ j) (w + m))) (e₁₀.0 ∙ (λ j. word_place (f₂ j) (w + m))) (e₁₀.1 ∙ (λ j. child_row (f₀ j) (r + 1))) (e₁₂.0 ∙ (λ j. child_row (f₁ j) (r + 1))) (e₁₂.1 ∙ (λ j. child_row (f₂ j) (r + 1))) e₁₄ e₁₅ in
+        let d : at 6 q ≡ dimension (dword_of q) = sym its.dimension_is in
         let c : m ≡ immediates (dword_of q) = em ∙ ap counted (sym its.form_is) in
         ap (λ (j : ℕ). Is 1 m j) e₁₅ ∙
-        by_leaf left rs ws r w hl (omega (arith, row_there)) (dword_of q) x guess-is true (sym z) refl
+        by_leaf left rs ws r w hl (omega (arith, row_there)) (dword_of q) x guess_is true (sym z) refl
         (leaf_yes rs ws r w (dword_of q) x row_there (at 6 q) d e₆.0 m c (length ws - w) refl (omega arith) (extras q) y true (front_same_lem w m (e₄ ∙ (λ j. placed (p j) w)) e₅) refl true u refl)

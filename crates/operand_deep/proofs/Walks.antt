@@ -97,45 +97,45 @@ module _ (rs ws : List ℕ) (r w t x : ℕ) (lr : 16 * r + 16 ≤ length rs) (d 
     leaf_short l = rw (← ed, eq-eqb d 0 hd, ← em, lt-leb m (length (drop w ws)) (omega (arith, length-drop w ws)))
 
     module _ (l : m ≤ n) (c : ℕ) (ec : c ≡ length (extensions x)) (f : Bool) (ef : f ≡ front_same rs r t x w m) where
-      leaf-length : length (take m (drop w ws)) ≡ m
-      leaf-length = length-take-le m (drop w ws) (omega (arith, length-drop w ws))
+      leaf_length : length (take m (drop w ws)) ≡ m
+      leaf_length = length-take-le m (drop w ws) (omega (arith, length-drop w ws))
 
-      leaf-dwords : 1 + c + m ≡ length (dwords (node t (extensions x) (take m (drop w ws)) none none none))
+      leaf_dwords : 1 + c + m ≡ length (dwords (node t (extensions x) (take m (drop w ws)) none none none))
       unfolding dwords
-      leaf-dwords = omega (arith, four_lengths (extensions x ++ take m (drop w ws)) [] [] [], length-append (extensions x) (take m (drop w ws)), leaf-length)
+      leaf_dwords = omega (arith, four_lengths (extensions x ++ take m (drop w ws)) [] [] [], length-append (extensions x) (take m (drop w ws)), leaf_length)
 
-      leaf-words : m ≡ length (tree_words (node t (extensions x) (take m (drop w ws)) none none none))
+      leaf_words : m ≡ length (tree_words (node t (extensions x) (take m (drop w ws)) none none none))
       unfolding tree_words
-      leaf-words = omega (arith, four_lengths (take m (drop w ws)) [] [] [], leaf-length)
+      leaf_words = omega (arith, four_lengths (take m (drop w ws)) [] [] [], leaf_length)
 
-      abbrev leaf-end : Place
-      leaf-end = (r + 1, w + m)
+      abbrev leaf_end : Place
+      leaf_end = (r + 1, w + m)
 
-      leaf_row_lem : front_for t (op.modifiers (extensions x)) w m ++ back_for t leaf-end leaf-end leaf-end 1 (1 + c + m) ≡ operand_row r w t (extensions x) (take m (drop w ws)) none none none
+      leaf_row_lem : front_for t (op.modifiers (extensions x)) w m ++ back_for t leaf_end leaf_end leaf_end 1 (1 + c + m) ≡ operand_row r w t (extensions x) (take m (drop w ws)) none none none
       unfolding operand_row front_for back_for tree_rows tree_words
       leaf_row_lem =
-          let n₁ : m ≡ length (take m (drop w ws)) = sym leaf-length in
+          let n₁ : m ≡ length (take m (drop w ws)) = sym leaf_length in
           let z₁ : w + m ≡ w + length (take m (drop w ws)) + 0 = omega arith in
           let z₂ : w + m ≡ w + length (take m (drop w ws)) + 0 + 0 = omega arith in
           let y₁ : r + 1 ≡ r + 1 + 0 = omega arith in
           let y₂ : r + 1 ≡ r + 1 + 0 + 0 = omega arith in
-          λ i. front_for t (op.modifiers (extensions x)) w (n₁ i) ++ back_for t (r + 1, w + n₁ i) (y₁ i, z₁ i) (y₂ i, z₂ i) 1 (leaf-dwords i)
+          λ i. front_for t (op.modifiers (extensions x)) w (n₁ i) ++ back_for t (r + 1, w + n₁ i) (y₁ i, z₁ i) (y₂ i, z₂ i) 1 (leaf_dwords i)
 
-      leaf-same : same (row_at r rs) (operand_row r w t (extensions x) (take m (drop w ws)) none none none) ≡ (front_same rs r t x w m && back_same rs r t leaf-end leaf-end leaf-end 1 (1 + c + m))
-      leaf-same = by_halves rs r t x w m leaf-end leaf-end leaf-end 1 (1 + c + m) _ lr leaf_row_lem
+      leaf_same : same (row_at r rs) (operand_row r w t (extensions x) (take m (drop w ws)) none none none) ≡ (front_same rs r t x w m && back_same rs r t leaf_end leaf_end leaf_end 1 (1 + c + m))
+      leaf_same = by_halves rs r t x w m leaf_end leaf_end leaf_end 1 (1 + c + m) _ lr leaf_row_lem
 
       pub leaf_other : not f ≡ true → Not ≡ walked (confirm_immediates (row_at r rs) t (extensions x) (drop w ws) r w)
       unfolding confirm_immediates confirmed
-      leaf_other h = rw (← ed, eq-eqb d 0 hd, ← em, le-leb m (length (drop w ws)) (omega (arith, length-drop w ws)), leaf-same, ← ef, not-true f h)
+      leaf_other h = rw (← ed, eq-eqb d 0 hd, ← em, le-leb m (length (drop w ws)) (omega (arith, length-drop w ws)), leaf_same, ← ef, not-true f h)
 
-      module _ (hf : not f ≡ false) (g : Bool) (eg : g ≡ back_same rs r t leaf-end leaf-end leaf-end 1 (1 + c + m)) where
+      module _ (hf : not f ≡ false) (g : Bool) (eg : g ≡ back_same rs r t leaf_end leaf_end leaf_end 1 (1 + c + m)) where
         pub leaf_no : not g ≡ true → Not ≡ walked (confirm_immediates (row_at r rs) t (extensions x) (drop w ws) r w)
         unfolding confirm_immediates confirmed
-        leaf_no h = rw (← ed, eq-eqb d 0 hd, ← em, le-leb m (length (drop w ws)) (omega (arith, length-drop w ws)), leaf-same, ← ef, not-false f hf, ← eg, not-true g h)
+        leaf_no h = rw (← ed, eq-eqb d 0 hd, ← em, le-leb m (length (drop w ws)) (omega (arith, length-drop w ws)), leaf_same, ← ef, not-false f hf, ← eg, not-true g h)
 
         pub leaf_yes : not g ≡ false → Is 1 m (1 + c + m) ≡ walked (confirm_immediates (row_at r rs) t (extensions x) (drop w ws) r w)
         unfolding confirm_immediates confirmed tree_rows
-        leaf_yes h = rw (← ed, eq-eqb d 0 hd, ← em, le-leb m (length (drop w ws)) (omega (arith, length-drop w ws)), leaf-same, ← ef, not-false f hf, ← eg, not-false g h) (λ i. Is 1 (leaf-words i) (leaf-dwords i))
+        leaf_yes h = rw (← ed, eq-eqb d 0 hd, ← em, le-leb m (length (drop w ws)) (omega (arith, length-drop w ws)), leaf_same, ← ef, not-false f hf, ← eg, not-false g h) (λ i. Is 1 (leaf_words i) (leaf_dwords i))
 
 pub few_extensions : (x n : ℕ) → n ≡ length (extensions x) → n ≤ 1
 unfolding extensions
@@ -207,44 +207,44 @@ module _ (k : ℕ) (rs ws : List ℕ) (r w t x : ℕ) (lr : 16 * r + 16 ≤ leng
           abbrev built : Tree
           built = node t (extensions x) [] f₀.tree f₁.tree f₂.tree
 
-          tree-rows : r₃ - r ≡ tree_rows built
+          tree_rows_lem : r₃ - r ≡ tree_rows built
           unfolding tree_rows
-          tree-rows = omega (arith, f₀.row_is, f₁.row_is, f₂.row_is)
+          tree_rows_lem = omega (arith, f₀.row_is, f₁.row_is, f₂.row_is)
 
-          tree-words : w₃ - w ≡ length (tree_words built)
+          tree_words_lem : w₃ - w ≡ length (tree_words built)
           unfolding tree_words
-          tree-words = omega (arith, f₀.word_is, f₁.word_is, f₂.word_is, four_lengths [] (tree_words f₀.tree) (tree_words f₁.tree) (tree_words f₂.tree))
+          tree_words_lem = omega (arith, f₀.word_is, f₁.word_is, f₂.word_is, four_lengths [] (tree_words f₀.tree) (tree_words f₁.tree) (tree_words f₂.tree))
 
           module _ (c : ℕ) (ec : c ≡ length (extensions x)) (f : Bool) (ef : f ≡ front_same rs r t x w 0) where
-            tree-dwords : 1 + c + d₀ + d₁ + d₂ ≡ length (dwords built)
+            tree_dwords : 1 + c + d₀ + d₁ + d₂ ≡ length (dwords built)
             unfolding dwords
-            tree-dwords = omega (arith, four_lengths (extensions x ++ []) (dwords f₀.tree) (dwords f₁.tree) (dwords f₂.tree), length-append (extensions x) [], f₀.dwords_are, f₁.dwords_are, f₂.dwords_are)
+            tree_dwords = omega (arith, four_lengths (extensions x ++ []) (dwords f₀.tree) (dwords f₁.tree) (dwords f₂.tree), length-append (extensions x) [], f₀.dwords_are, f₁.dwords_are, f₂.dwords_are)
 
-            tree-row : front_for t (op.modifiers (extensions x)) w 0 ++ back_for t (r + 1, w) (r₁, w₁) (r₂, w₂) (r₃ - r) (1 + c + d₀ + d₁ + d₂) ≡ operand_row r w t (extensions x) [] f₀.tree f₁.tree f₂.tree
+            tree_row : front_for t (op.modifiers (extensions x)) w 0 ++ back_for t (r + 1, w) (r₁, w₁) (r₂, w₂) (r₃ - r) (1 + c + d₀ + d₁ + d₂) ≡ operand_row r w t (extensions x) [] f₀.tree f₁.tree f₂.tree
             unfolding operand_row front_for back_for
-            tree-row =
+            tree_row =
                 let z₀ : w ≡ w + 0 = sym (add-zero w) in
                 let z₁ : w₁ ≡ w + 0 + length (tree_words f₀.tree) = omega (arith, f₀.word_is) in
                 let z₂ : w₂ ≡ w + 0 + length (tree_words f₀.tree) + length (tree_words f₁.tree) = omega (arith, f₀.word_is, f₁.word_is) in
                 let y₁ : r₁ ≡ r + 1 + tree_rows f₀.tree = sym f₀.row_is in
                 let y₂ : r₂ ≡ r + 1 + tree_rows f₀.tree + tree_rows f₁.tree = omega (arith, f₀.row_is, f₁.row_is) in
-                λ i. front_for t (op.modifiers (extensions x)) w 0 ++ back_for t (r + 1, z₀ i) (y₁ i, z₁ i) (y₂ i, z₂ i) (tree-rows i) (tree-dwords i)
+                λ i. front_for t (op.modifiers (extensions x)) w 0 ++ back_for t (r + 1, z₀ i) (y₁ i, z₁ i) (y₂ i, z₂ i) (tree_rows_lem i) (tree_dwords i)
 
-            tree-same : same (row_at r rs) (operand_row r w t (extensions x) [] f₀.tree f₁.tree f₂.tree) ≡ (front_same rs r t x w 0 && back_same rs r t (r + 1, w) (r₁, w₁) (r₂, w₂) (r₃ - r) (1 + c + d₀ + d₁ + d₂))
-            tree-same = by_halves rs r t x w 0 (r + 1, w) (r₁, w₁) (r₂, w₂) (r₃ - r) (1 + c + d₀ + d₁ + d₂) _ lr tree-row
+            tree_same : same (row_at r rs) (operand_row r w t (extensions x) [] f₀.tree f₁.tree f₂.tree) ≡ (front_same rs r t x w 0 && back_same rs r t (r + 1, w) (r₁, w₁) (r₂, w₂) (r₃ - r) (1 + c + d₀ + d₁ + d₂))
+            tree_same = by_halves rs r t x w 0 (r + 1, w) (r₁, w₁) (r₂, w₂) (r₃ - r) (1 + c + d₀ + d₁ + d₂) _ lr tree_row
 
             pub tree_other : not f ≡ true → Not ≡ walked whole
             unfolding confirmed
-            tree_other h = rw (opened, tree-same, ← ef, not-true f h)
+            tree_other h = rw (opened, tree_same, ← ef, not-true f h)
 
             module _ (hf : not f ≡ false) (g : Bool) (eg : g ≡ back_same rs r t (r + 1, w) (r₁, w₁) (r₂, w₂) (r₃ - r) (1 + c + d₀ + d₁ + d₂)) where
               pub tree_no : not g ≡ true → Not ≡ walked whole
               unfolding confirmed
-              tree_no h = rw (opened, tree-same, ← ef, not-false f hf, ← eg, not-true g h)
+              tree_no h = rw (opened, tree_same, ← ef, not-false f hf, ← eg, not-true g h)
 
               pub tree_yes : not g ≡ false → Is (r₃ - r) (w₃ - w) (1 + c + d₀ + d₁ + d₂) ≡ walked whole
               unfolding confirmed
-              tree_yes h = rw (opened, tree-same, ← ef, not-false f hf, ← eg, not-false g h) (λ i. Is (tree-rows i) (tree-words i) (tree-dwords i))
+              tree_yes h = rw (opened, tree_same, ← ef, not-false f hf, ← eg, not-false g h) (λ i. Is (tree_rows_lem i) (tree_words_lem i) (tree_dwords i))
 
 -- ---- an operand
 pub deepest : (left : ℕ) (rs ws : List ℕ) (r w : ℕ) → left ≡ 0 → Not ≡ walked (there (confirm left) rs ws r w)
@@ -267,10 +267,10 @@ again zero = none_is 0 refl
 again (suc m) = one_is _ (λ z. omega arith)
 
 record Guessed (t x u : ℕ) (e : List ℕ) : Type 0 where
-  dword-is : t ≡ u
-  extension-is : extensions x ≡ e
-  exact-dword : op.exact_dword u ≡ true
-  exact-extension : op.exact_extension e ≡ true
+  dword_is : t ≡ u
+  extension_is : extensions x ≡ e
+  exact_dword_lem : op.exact_dword u ≡ true
+  exact_extension_lem : op.exact_extension e ≡ true
 
 guess_of : (t x u m : ℕ) → Of t x ≡ guessed u (extension_of m) → Guessed t x u (extension_of m)
 unfolding guessed
@@ -282,7 +282,7 @@ guess_of t x u m e = go (op.exact_dword u && op.exact_extension (extension_of m)
         let et : t ≡ u = cc in
         let ex : x ≡ get_or (extension_of m) 0 0 = cc in
         let b = both (op.exact_dword u) (op.exact_extension (extension_of m)) z in
-        record { dword-is = et; extension-is = ap extensions ex ∙ again m; exact-dword = b.0; exact-extension = b.1 }
+        record { dword_is = et; extension_is = ap extensions ex ∙ again m; exact_dword_lem = b.0; exact_extension_lem = b.1 }
 
 not_guessed : (u : ℕ) (e : List ℕ) → No ≡ guessed u e → (op.exact_dword u && op.exact_extension e) ≡ false
 unfolding guessed
@@ -305,15 +305,15 @@ module _ (left : ℕ) (rs ws : List ℕ) (r w : ℕ) (h : left ≡ 0 → ⊥) wh
     no_guess e = rw (unroll left rs ws r w h, row_there, not_guessed _ _ e)
 
     module _ (t x : ℕ) (e : Of t x ≡ guessed (operand_dword (row_at r rs)) (extension_of (at 3 (row_at r rs)))) (b : Bool) (eb : b ≡ immediate t) where
-      fronted-is : fronted left rs ws r w ≡ cond b (confirm_immediates (row_at r rs) t (extensions x) (drop w ws) r w) (confirm_indices (confirm (left - 1)) (row_at r rs) t (extensions x) (drop (16 * (r + 1)) rs) (drop w ws) r w)
+      fronted_is : fronted left rs ws r w ≡ cond b (confirm_immediates (row_at r rs) t (extensions x) (drop w ws) r w) (confirm_indices (confirm (left - 1)) (row_at r rs) t (extensions x) (drop (16 * (r + 1)) rs) (drop w ws) r w)
       unfolding confirm_front
-      fronted-is =
+      fronted_is =
           let g = guess_of t x _ _ e in
           let z : drop 16 (drop (16 * r) rs) ≡ drop (16 * (r + 1)) rs = rows_behind 1 r (r + 1) rs refl in
-          rw (g.exact-dword, g.exact-extension, z, ← g.dword-is, ← g.extension-is, ← eb)
+          rw (g.exact_dword_lem, g.exact_extension_lem, z, ← g.dword_is, ← g.extension_is, ← eb)
 
       pub by_leaf : b ≡ true → {a : Walked} → a ≡ walked (confirm_immediates (row_at r rs) t (extensions x) (drop w ws) r w) → a ≡ walked (there (confirm left) rs ws r w)
-      by_leaf hb ea = ea ∙ sym (rw (unroll left rs ws r w h, row_there, fronted-is, hb))
+      by_leaf hb ea = ea ∙ sym (rw (unroll left rs ws r w h, row_there, fronted_is, hb))
 
       pub by_tree : b ≡ false → {a : Walked} → a ≡ walked (confirm_indices (confirm (left - 1)) (row_at r rs) t (extensions x) (drop (16 * (r + 1)) rs) (drop w ws) r w) → a ≡ walked (there (confirm left) rs ws r w)
-      by_tree hb ea = ea ∙ sym (rw (unroll left rs ws r w h, row_there, fronted-is, hb))
+      by_tree hb ea = ea ∙ sym (rw (unroll left rs ws r w h, row_there, fronted_is, hb))

@@ -56,17 +56,17 @@ module _ (rs ws : List ℕ) (first word place n : ℕ) (g : Lone (row_from first
 
   -- with so many words, and without representations
   module _ (k : ℕ) (f : Few (row_from first rs) k) where
-    few-count : get_or rs (first + 15) 0 ≡ length (head_of (row_from first rs)) + k
-    few-count = omega (arith, f.left_is, g.head_fits, count_is)
+    few_count : get_or rs (first + 15) 0 ≡ length (head_of (row_from first rs)) + k
+    few_count = omega (arith, f.left_is, g.head_fits, count_is)
 
     module _ (next : ℕ) (en : next ≡ place + length (head_of (row_from first rs))) where
-      few-room : (n₁ : ℕ) → n₁ ≡ n → (k ≤ length ws - word) × (4 * (next + k) ≤ n₁)
-      few-room n₁ e = words_room next en k (sym f.left_is) n₁ e
+      few_room : (n₁ : ℕ) → n₁ ≡ n → (k ≤ length ws - word) × (4 * (next + k) ≤ n₁)
+      few_room n₁ e = words_room next en k (sym f.left_is) n₁ e
 
-      few-stood : (end : ℕ) → end ≡ next + k → {out out₁ out₂ : List ℕ} → n ≡ length out → Headed (head_of (row_from first rs)) place out next out₁ →
+      few_stood : (end : ℕ) → end ≡ next + k → {out out₁ out₂ : List ℕ} → n ≡ length out → Headed (head_of (row_from first rs)) place out next out₁ →
           out₂ ≡ put (4 * next) (bytes_of (take k (drop word ws))) out₁ → Stood (row_from first rs) ws first word place out (record { first = first + 16; word = word + k; at = end }) out₂
-      few-stood end ee {out} {out₁} {out₂} el h e =
-          let z : place + get_or rs (first + 15) 0 ≡ end = omega (arith, few-count) in
+      few_stood end ee {out} {out₁} {out₂} el h e =
+          let z : place + get_or rs (first + 15) 0 ≡ end = omega (arith, few_count) in
           subst (λ (j : ℕ). Stood (row_from first rs) ws first word place out (record { first = first + 16; word = word + k; at = j }) out₂) z (stood next en el h k (sym f.left_is) e)
 
   -- without modifiers
@@ -79,43 +79,43 @@ module _ (rs ws : List ℕ) (first word place n : ℕ) (g : Lone (row_from first
 
     module _ (k : ℕ) (f : Few (row_from first rs) k) where
       pub plain_room : (n₁ : ℕ) → n₁ ≡ n → (k ≤ length ws - word) × (4 * (place + 1 + k) ≤ n₁)
-      plain_room = few-room k f (place + 1) one_dword_lem
+      plain_room = few_room k f (place + 1) one_dword_lem
 
       module _ (t : ℕ) (et : t ≡ flat_of (row_from first rs)) (out : List ℕ) (en : n ≡ length out) {out₁ : List ℕ} (e₁ : out₁ ≡ put (4 * place) (bytes_of (t ∷ [])) out) where
         plain_headed : Headed (head_of (row_from first rs)) place out (place + 1) out₁
         plain_headed = headed_one rs first place t (et ∙ flat_plain (row_from first rs) f.no_reprs hm) out e₁ no_modifiers
 
-        plain-length : length out₁ ≡ n
-        plain-length = ap length e₁ ∙ dwords_length place (t ∷ []) out (omega (arith, plain_room n refl)) ∙ sym en
+        plain_length : length out₁ ≡ n
+        plain_length = ap length e₁ ∙ dwords_length place (t ∷ []) out (omega (arith, plain_room n refl)) ∙ sym en
 
         abbrev room : (k ≤ length ws - word) × (4 * (place + 1 + k) ≤ length out₁)
-        room = plain_room (length out₁) plain-length
+        room = plain_room (length out₁) plain_length
 
-        plain-stood : (end : ℕ) → end ≡ place + 1 + k → {out₂ : List ℕ} → out₂ ≡ put (4 * (place + 1)) (bytes_of (take k (drop word ws))) out₁ →
+        plain_stood : (end : ℕ) → end ≡ place + 1 + k → {out₂ : List ℕ} → out₂ ≡ put (4 * (place + 1)) (bytes_of (take k (drop word ws))) out₁ →
             Stood (row_from first rs) ws first word place out (record { first = first + 16; word = word + k; at = end }) out₂
-        plain-stood end ee e = few-stood k f (place + 1) one_dword_lem end ee en plain_headed e
+        plain_stood end ee e = few_stood k f (place + 1) one_dword_lem end ee en plain_headed e
 
         pub none_stood : k ≡ 0 → Stood (row_from first rs) ws first word place out (record { first = first + 16; word = word; at = place + 1 }) out₁
         none_stood ek =
             let z : word + k ≡ word = omega arith in
             subst (λ (j : ℕ). Stood (row_from first rs) ws first word place out (record { first = first + 16; word = j; at = place + 1 }) out₁) z
-            (plain-stood (place + 1) (omega arith) (copied_none ws word k (place + 1) out₁ ek))
+            (plain_stood (place + 1) (omega arith) (copied_none ws word k (place + 1) out₁ ek))
 
         module _ {out₂ : List ℕ} (e₂ : out₂ ≡ put (4 * (place + 1)) (bytes_of (get_or ws word 0 ∷ [])) out₁) where
           pub one_stood : k ≡ 1 → Stood (row_from first rs) ws first word place out (record { first = first + 16; word = word + k; at = place + 2 }) out₂
-          one_stood ek = plain-stood (place + 2) (omega arith) (copied_one ws word k (place + 1) out₁ room.0 room.1 e₂ ek)
+          one_stood ek = plain_stood (place + 2) (omega arith) (copied_one ws word k (place + 1) out₁ room.0 room.1 e₂ ek)
 
           module _ {out₃ : List ℕ} (e₃ : out₃ ≡ put (4 * (place + 2)) (bytes_of (get_or ws (word + 1) 0 ∷ [])) out₂) where
             third : out₃ ≡ put (4 * (place + 1 + 1)) (bytes_of (get_or ws (word + 1) 0 ∷ [])) out₂
             third = e₃ ∙ moved (place + 2) (place + 1 + 1) (omega arith) (get_or ws (word + 1) 0) out₂
 
             pub two_stood : k ≡ 2 → Stood (row_from first rs) ws first word place out (record { first = first + 16; word = word + k; at = place + 3 }) out₃
-            two_stood ek = plain-stood (place + 3) (omega arith) (copied_two ws word k (place + 1) out₁ room.0 room.1 e₂ third ek)
+            two_stood ek = plain_stood (place + 3) (omega arith) (copied_two ws word k (place + 1) out₁ room.0 room.1 e₂ third ek)
 
             pub four_stood : k ≡ 4 → {out₄ out₅ : List ℕ} → out₄ ≡ put (4 * (place + 3)) (bytes_of (get_or ws (word + 2) 0 ∷ [])) out₃ →
                 out₅ ≡ put (4 * (place + 4)) (bytes_of (get_or ws (word + 3) 0 ∷ [])) out₄ → Stood (row_from first rs) ws first word place out (record { first = first + 16; word = word + k; at = place + 5 }) out₅
             four_stood ek {out₄} {out₅} e₄ e₅ =
-                plain-stood (place + 5) (omega arith)
+                plain_stood (place + 5) (omega arith)
                 (copied_four ws word k (place + 1) out₁ room.0 room.1 e₂ third ek
                 (e₄ ∙ moved (place + 3) (place + 1 + 2) (omega arith) (get_or ws (word + 2) 0) out₃)
                 (e₅ ∙ moved (place + 4) (place + 1 + 3) (omega arith) (get_or ws (word + 3) 0) out₄))
@@ -125,26 +125,26 @@ module _ (rs ws : List ℕ) (first word place n : ℕ) (g : Lone (row_from first
     some_modifiers : get_or rs (first + 3) 0 ≡ 0 → ⊥
     some_modifiers z = impossible (omega (arith, row_at rs first 3 (lit< tt)))
 
-    two-dwords-there : place + 2 ≡ place + length (head_of (row_from first rs))
-    two-dwords-there = ap (λ (j : ℕ). place + j) (sym (two_dwords rs first some_modifiers))
+    two_dwords_there : place + 2 ≡ place + length (head_of (row_from first rs))
+    two_dwords_there = ap (λ (j : ℕ). place + j) (sym (two_dwords rs first some_modifiers))
 
     pub extended_room : (n₁ : ℕ) → n₁ ≡ n → (1 ≤ length ws - word) × (4 * (place + 2 + 1) ≤ n₁)
-    extended_room = few-room 1 f (place + 2) two-dwords-there
+    extended_room = few_room 1 f (place + 2) two_dwords_there
 
     module _ (t : ℕ) (et : t ≡ flat_of (row_from first rs)) where
-      extended-is : t + 2147483648 ≡ operand_dword (row_from first rs)
-      extended-is = ap (λ (j : ℕ). j + 2147483648) et ∙ flat_extended (row_from first rs) f.no_reprs hm
+      extended_is : t + 2147483648 ≡ operand_dword (row_from first rs)
+      extended_is = ap (λ (j : ℕ). j + 2147483648) et ∙ flat_extended (row_from first rs) f.no_reprs hm
 
       pub extended_fits : t + 2147483648 < 2 ^ 32
-      extended_fits = omega (arith, extended-is, g.fits.dword_fits)
+      extended_fits = omega (arith, extended_is, g.fits.dword_fits)
 
       pub extended_stood : (x : ℕ) → x ≡ extension_with (get_or rs (first + 3) 0 % 4) (get_or rs (first + 3) 0 / 16) (get_or rs (first + 3) 0 / 4 % 2) → (out : List ℕ) → n ≡ length out →
           {out₁ out₂ out₃ : List ℕ} → out₁ ≡ put (4 * place) (bytes_of ((t + 2147483648) ∷ [])) out → out₂ ≡ put (4 * (place + 1)) (bytes_of (x ∷ [])) out₁ → out₃ ≡ put (4 * (place + 2)) (bytes_of (get_or ws word 0 ∷ [])) out₂ →
           Stood (row_from first rs) ws first word place out (record { first = first + 16; word = word + 1; at = place + 3 }) out₃
       extended_stood x ex out en {out₁} {out₂} e₁ e₂ e₃ =
           let w = extended_room n refl in
-          let h = headed_two rs first place (t + 2147483648) extended-is out e₁ some_modifiers (omega (arith, w, two-dwords-there)) x ex e₂ in
+          let h = headed_two rs first place (t + 2147483648) extended_is out e₁ some_modifiers (omega (arith, w, two_dwords_there)) x ex e₂ in
           let l₁ : length out₁ ≡ n = ap length e₁ ∙ dwords_length place ((t + 2147483648) ∷ []) out (omega (arith, w)) ∙ sym en in
           let l₂ : length out₂ ≡ n = ap length e₂ ∙ dwords_length (place + 1) (x ∷ []) out₁ (omega (arith, w)) ∙ l₁ in
           let r = extended_room (length out₂) l₂ in
-          few-stood 1 f (place + 2) two-dwords-there (place + 3) (omega arith) en h (copied_one ws word 1 (place + 2) out₂ r.0 r.1 e₃ refl)
+          few_stood 1 f (place + 2) two_dwords_there (place + 3) (omega arith) en h (copied_one ws word 1 (place + 2) out₂ r.0 r.1 e₃ refl)

@@ -90,20 +90,20 @@ module _ (rs : List ℕ) (o : ℕ) where
   Q = take 16 (drop o rs)
 
   -- the numbers where they are read
-  abbrev flat-there : ℕ
-  flat-there = get_or (0 ∷ 1 ∷ 2 ∷ 6 ∷ 10 ∷ []) (get_or rs (o + 1) 0) 0 + get_or rs (o + 2) 0 * 2 ^ 4 + get_or rs o 0 * 2 ^ 12 + get_or rs (o + 6) 0 * 2 ^ 20
+  abbrev flat_there : ℕ
+  flat_there = get_or (0 ∷ 1 ∷ 2 ∷ 6 ∷ 10 ∷ []) (get_or rs (o + 1) 0) 0 + get_or rs (o + 2) 0 * 2 ^ 4 + get_or rs o 0 * 2 ^ 12 + get_or rs (o + 6) 0 * 2 ^ 20
 
-  flat-at : flat-there ≡ flat_of Q
-  flat-at =
+  flat_at : flat_there ≡ flat_of Q
+  flat_at =
       let e₀ : get_or rs o 0 ≡ get_or Q 0 0 = ap (λ (j : ℕ). get_or rs j 0) (sym (add-zero o)) ∙ sym (row_at rs o 0 (lit< tt)) in
       λ i. get_or (0 ∷ 1 ∷ 2 ∷ 6 ∷ 10 ∷ []) (sym (row_at rs o 1 (lit< tt)) i) 0 + sym (row_at rs o 2 (lit< tt)) i * 2 ^ 4 + e₀ i * 2 ^ 12 + sym (row_at rs o 6 (lit< tt)) i * 2 ^ 20
 
   pub flat_made : (l : ℕ) → l ≡ get_or (0 ∷ 1 ∷ 2 ∷ 6 ∷ 10 ∷ []) (get_or rs (o + 1) 0) 0 → get_or rs o 0 * 4096 + get_or rs (o + 2) 0 * 16 + l + get_or rs (o + 6) 0 * 1048576 ≡ flat_of Q
-  flat_made l e = omega (arith, e) ∙ flat-at
+  flat_made l e = omega (arith, e) ∙ flat_at
 
-  pub flat_room : Fits Q → flat-there < 2 ^ 32
+  pub flat_room : Fits Q → flat_there < 2 ^ 32
   unfolding operand_dword
-  flat_room f = rw flat-at (omega (arith, f.dword_fits))
+  flat_room f = rw flat_at (omega (arith, f.dword_fits))
 
   pub flat_form : Fits Q → get_or rs (o + 1) 0 < 5
   flat_form f = omega (arith, f.form_fits, row_at rs o 1 (lit< tt))

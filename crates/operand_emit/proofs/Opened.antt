@@ -108,31 +108,31 @@ module _ (p : Confirmer) (rs ws : List ℕ) (r w : ℕ) where
           flat = λ z. subst (λ (d : ℕ). Flat d (node (operand_dword Q) (extension_of (at 3 Q)) m a b c)) (sym (ap (at 6) s)) (k (sym (ap (at 7) s) ∙ z));
         }
 
-    every-opened : (m : List ℕ) (a b c : Tree) →
+    every_opened : (m : List ℕ) (a b c : Tree) →
         ((tree_rows (node (operand_dword Q) (extension_of (at 3 Q)) m a b c) ≡ 1 → ⊥) → Indices p rs ws r w (node (operand_dword Q) (extension_of (at 3 Q)) m a b c)) →
         (op.reprs (operand_dword Q) ≡ 0 → Flat (op.dimension (operand_dword Q)) (node (operand_dword Q) (extension_of (at 3 Q)) m a b c)) →
         Every (Opened p rs ws r w) (confirmed Q r w (operand_dword Q) (extension_of (at 3 Q)) m a b c)
     unfolding confirmed
-    every-opened m a b c f k = every_if (same Q _) _ _ (λ s. met (opened m a b c (same_eq Q _ s) f k)) (λ s. unmet)
+    every_opened m a b c f k = every_if (same Q _) _ _ (λ s. met (opened m a b c (same_eq Q _ s) f k)) (λ s. unmet)
 
-    leaf-rows : (m : List ℕ) → tree_rows (node (operand_dword Q) (extension_of (at 3 Q)) m none none none) ≡ 1
+    leaf_rows : (m : List ℕ) → tree_rows (node (operand_dword Q) (extension_of (at 3 Q)) m none none none) ≡ 1
     unfolding tree_rows
-    leaf-rows m = refl
+    leaf_rows m = refl
 
-    leaf-flat : (m : List ℕ) → op.dimension (operand_dword Q) ≡ 0 → Flat (op.dimension (operand_dword Q)) (node (operand_dword Q) (extension_of (at 3 Q)) m none none none)
-    leaf-flat m h = record { one_row = leaf-rows m; words_are = λ l. impossible (omega arith) }
+    leaf_flat : (m : List ℕ) → op.dimension (operand_dword Q) ≡ 0 → Flat (op.dimension (operand_dword Q)) (node (operand_dword Q) (extension_of (at 3 Q)) m none none none)
+    leaf_flat m h = record { one_row = leaf_rows m; words_are = λ l. impossible (omega arith) }
 
-    opened-leaf : Every (Opened p rs ws r w) (confirm_immediates Q (operand_dword Q) (extension_of (at 3 Q)) ws r w)
+    opened_leaf : Every (Opened p rs ws r w) (confirm_immediates Q (operand_dword Q) (extension_of (at 3 Q)) ws r w)
     unfolding confirm_immediates
-    opened-leaf = every_if (eqb (op.dimension (operand_dword Q)) 0 && leb (immediates (operand_dword Q)) (length ws)) _ _ (λ z. every-opened (take (immediates (operand_dword Q)) ws) none none none (λ n. absurd (n (leaf-rows (take (immediates (operand_dword Q)) ws)))) (λ e. leaf-flat (take (immediates (operand_dword Q)) ws) (eqb-true (op.dimension (operand_dword Q)) 0 (both _ _ z).0))) (λ z. unmet)
+    opened_leaf = every_if (eqb (op.dimension (operand_dword Q)) 0 && leb (immediates (operand_dword Q)) (length ws)) _ _ (λ z. every_opened (take (immediates (operand_dword Q)) ws) none none none (λ n. absurd (n (leaf_rows (take (immediates (operand_dword Q)) ws)))) (λ e. leaf_flat (take (immediates (operand_dword Q)) ws) (eqb-true (op.dimension (operand_dword Q)) 0 (both _ _ z).0))) (λ z. unmet)
 
-    opened-indices : Every (Opened p rs ws r w) (confirm_indices p Q (operand_dword Q) (extension_of (at 3 Q)) (drop 16 rs) ws r w)
+    opened_indices : Every (Opened p rs ws r w) (confirm_indices p Q (operand_dword Q) (extension_of (at 3 Q)) (drop 16 rs) ws r w)
     unfolding confirm_indices
-    opened-indices =
+    opened_indices =
         every_then (every_self (confirm_index p (repr 0 (operand_dword Q)) (drop 16 rs) ws (r + 1) w)) (λ a ea.
         every_then (every_self (behind a (confirm_index p (repr 1 (operand_dword Q))) (drop 16 rs) ws (r + 1) w)) (λ b eb.
         every_then (every_self (behind a (behind b (confirm_index p (repr 2 (operand_dword Q)))) (drop 16 rs) ws (r + 1) w)) (λ c ec.
-        every-opened [] a b c (λ n. record { first = a; second = b; third = c; first_is = ea; second_is = eb; third_is = ec; is = refl }) (flat_three (operand_dword Q) (extension_of (at 3 Q)) a b c
+        every_opened [] a b c (λ n. record { first = a; second = b; third = c; first_is = ea; second_is = eb; third_is = ec; is = refl }) (flat_three (operand_dword Q) (extension_of (at 3 Q)) a b c
         (wordy p (repr 0 (operand_dword Q)) (drop 16 rs) ws (r + 1) w ea)
         (wordy p (repr 1 (operand_dword Q)) (drop (16 * tree_rows a) (drop 16 rs)) (drop (length (tree_words a)) ws) (r + 1 + tree_rows a) (w + length (tree_words a)) eb)
         (wordy p (repr 2 (operand_dword Q)) (drop (16 * tree_rows b) (drop (16 * tree_rows a) (drop 16 rs))) (drop (length (tree_words b)) (drop (length (tree_words a)) ws)) (r + 1 + tree_rows a + tree_rows b) (w + length (tree_words a) + length (tree_words b)) ec)))))
@@ -145,7 +145,7 @@ opened_all (suc k) rs ws r w =
     (every_if (leb 16 (length rs)) _ _ (λ l.
     every_if (op.exact_dword (operand_dword (take 16 rs)) && op.exact_extension (extension_of (at 3 (take 16 rs)))) _ _ (λ z.
     let x = (both (op.exact_dword (operand_dword (take 16 rs))) _ z).0 in
-    every_if (immediate (operand_dword (take 16 rs))) _ _ (λ i. opened-leaf (confirm k) rs ws r w l x) (λ i. opened-indices (confirm k) rs ws r w l x))
+    every_if (immediate (operand_dword (take 16 rs))) _ _ (λ i. opened_leaf (confirm k) rs ws r w l x) (λ i. opened_indices (confirm k) rs ws r w l x))
     (λ z. unmet))
     (λ l. unmet))
 

@@ -50,16 +50,16 @@ module _ (left : ℕ) (rs ws : List ℕ) (first word place : ℕ) where
 
 -- ---- an index: words of its own, and an operand if there is one in it
 record Index (p : Confirmer) (i : ℕ) (rs ws : List ℕ) (r w : ℕ) (x : Tree) : Type 0 where
-  own-there : own i ≤ length ws
+  own_there : own i ≤ length ws
   child : Tree
-  child-is : cond (nests i) (p rs (drop (own i) ws) r (w + own i)) (just none) ≡ just child
+  child_is : cond (nests i) (p rs (drop (own i) ws) r (w + own i)) (just none) ≡ just child
   is : x ≡ plain (take (own i) ws) child
 
 index_all : (p : Confirmer) (i : ℕ) (rs ws : List ℕ) (r w : ℕ) → Every (Index p i rs ws r w) (confirm_index p i rs ws r w)
 unfolding confirm_index
 index_all p i rs ws r w = every_if (known i && leb (own i) (length ws)) _ _
     (λ z. every_then (every_self (cond (nests i) (p rs (drop (own i) ws) r (w + own i)) (just none))) (λ c ec.
-    met (record { own-there = leb-true (own i) (length ws) (both (known i) _ z).1; child = c; child-is = ec; is = refl })))
+    met (record { own_there = leb-true (own i) (length ws) (both (known i) _ z).1; child = c; child_is = ec; is = refl })))
     (λ z. unmet)
 
 module _ (k i : ℕ) (rs ws : List ℕ) (first word place n : ℕ) (g : Ready (standing (confirm_index (confirm k) i) rs ws first word) place n) where
@@ -67,24 +67,24 @@ module _ (k i : ℕ) (rs ws : List ℕ) (first word place n : ℕ) (g : Ready (s
   parts = every_of g.is (index_all (confirm k) i (drop first rs) (drop word ws) (first / 16) word)
 
   own_length : length (take (own i) (drop word ws)) ≡ own i
-  own_length = length-take-le (own i) (drop word ws) parts.own-there
+  own_length = length-take-le (own i) (drop word ws) parts.own_there
 
-  index-dwords : length (dwords g.tree) ≡ own i + length (dwords parts.child)
+  index_dwords : length (dwords g.tree) ≡ own i + length (dwords parts.child)
   unfolding dwords
-  index-dwords = ap (λ (x : Tree). length (dwords x)) parts.is ∙ omega (arith, length-append (take (own i) (drop word ws)) (dwords parts.child), own_length)
+  index_dwords = ap (λ (x : Tree). length (dwords x)) parts.is ∙ omega (arith, length-append (take (own i) (drop word ws)) (dwords parts.child), own_length)
 
   pub own_room : (o : ℕ) → o ≡ own i → (o ≤ length ws - word) × (4 * (place + o) ≤ n)
-  own_room o eo = (omega (arith, parts.own-there, length-drop word ws), omega (arith, index-dwords, g.room))
+  own_room o eo = (omega (arith, parts.own_there, length-drop word ws), omega (arith, index_dwords, g.room))
 
   module _ (o : ℕ) (eo : o ≡ own i) (b : Bool) (eb : b ≡ nests i) where
     child_at : b ≡ true → standing (confirm k) rs ws first (word + o) ≡ just parts.child
     child_at h =
         let z : nests i ≡ true = sym eb ∙ h in
-        let y : confirm k (drop first rs) (drop (own i) (drop word ws)) (first / 16) (word + own i) ≡ just parts.child = rw z at parts.child-is in
+        let y : confirm k (drop first rs) (drop (own i) (drop word ws)) (first / 16) (word + own i) ≡ just parts.child = rw z at parts.child_is in
         rw eo (ap (λ (l : List ℕ). confirm k (drop first rs) l (first / 16) (word + own i)) (sym (drop-drop (own i) word ws)) ∙ y)
 
     pub child_ready : b ≡ true → (n₁ : ℕ) → n₁ ≡ n → Ready (standing (confirm k) rs ws first (word + o)) (place + o) n₁
-    child_ready h n₁ e = record { tree = parts.child; is = child_at h; room = omega (arith, index-dwords, g.room) }
+    child_ready h n₁ e = record { tree = parts.child; is = child_at h; room = omega (arith, index_dwords, g.room) }
 
     module _ (out : List ℕ) {out₁ : List ℕ} (en : n ≡ length out) (e₁ : out₁ ≡ put (4 * place) (bytes_of (take o (drop word ws))) out) where
       owned : out₁ ≡ put (4 * place) (bytes_of (take (own i) (drop word ws))) out
@@ -109,7 +109,7 @@ module _ (k i : ℕ) (rs ws : List ℕ) (first word place n : ℕ) (g : Ready (s
       unnested h =
           let x : List ℕ = take (own i) (drop word ws) in
           let z : nests i ≡ false = sym eb ∙ h in
-          let y : just none ≡ just parts.child = rw z at parts.child-is in
+          let y : just none ≡ just parts.child = rw z at parts.child_is in
           let c : none ≡ parts.child = cc in
           let l : length (x ++ []) ≡ o = ap length (append-nil x) ∙ own_length ∙ sym eo in
           emitted_of (g.is ∙ ap just (parts.is ∙ ap (plain x) (sym c)))
@@ -142,37 +142,37 @@ module _ (left : ℕ) (rs ws : List ℕ) (first word place n : ℕ) (g : Ready (
     abbrev W : List ℕ
     W = tree_words g.tree
 
-    lone-dwords : dwords g.tree ≡ head_of (row_from first rs) ++ W
-    lone-dwords = whole.lone (sym rows_at ∙ h)
+    lone_dwords : dwords g.tree ≡ head_of (row_from first rs) ++ W
+    lone_dwords = whole.lone (sym rows_at ∙ h)
 
-    lone-count : at 15 (row_from first rs) ≡ length (head_of (row_from first rs)) + length W
-    lone-count = whole.dwords_are ∙ ap length lone-dwords ∙ length-append (head_of (row_from first rs)) W
+    lone_count : at 15 (row_from first rs) ≡ length (head_of (row_from first rs)) + length W
+    lone_count = whole.dwords_are ∙ ap length lone_dwords ∙ length-append (head_of (row_from first rs)) W
 
-    words-front : drop word ws ≡ W ++ drop (length W) (drop word ws)
-    words-front = (sound left (drop first rs) (drop word ws) (first / 16) word g.tree g.is).words
+    words_front : drop word ws ≡ W ++ drop (length W) (drop word ws)
+    words_front = (sound left (drop first rs) (drop word ws) (first / 16) word g.tree g.is).words
 
-    lone-left : words_left (row_from first rs) ≡ length W
-    lone-left = omega (arith, lone-count)
+    lone_left : words_left (row_from first rs) ≡ length W
+    lone_left = omega (arith, lone_count)
 
     pub lone_ready : Lone (row_from first rs) (length ws) word place n
     lone_ready =
-        let l = ap length words-front ∙ length-append W _ in
+        let l = ap length words_front ∙ length-append W _ in
         record {
           fits = whole.fits;
-          head_fits = omega (arith, lone-count);
-          words_there = omega (arith, lone-left, l, length-drop word ws);
+          head_fits = omega (arith, lone_count);
+          words_there = omega (arith, lone_left, l, length-drop word ws);
           room = omega (arith, whole.dwords_are, g.room);
         }
 
     pub lone_emitted : {out : List ℕ} {ends : Ends} {out' : List ℕ} → Stood (row_from first rs) ws first word place out ends out' → Emitted (standing (confirm left) rs ws first word) first word place out ends out'
     lone_emitted {out} {ends} {out'} s =
         let z : head_of (row_from first rs) ++ take (words_left (row_from first rs)) (drop word ws) ≡ dwords g.tree =
-        ap (λ (l : List ℕ). head_of (row_from first rs) ++ l) (ap (take (words_left (row_from first rs))) words-front ∙ take_at W (drop (length W) (drop word ws)) (words_left (row_from first rs)) (sym lone-left)) ∙ sym lone-dwords in
+        ap (λ (l : List ℕ). head_of (row_from first rs) ++ l) (ap (take (words_left (row_from first rs))) words_front ∙ take_at W (drop (length W) (drop word ws)) (words_left (row_from first rs)) (sym lone_left)) ∙ sym lone_dwords in
         emitted_of g.is
         (record {
           output_is = s.output_is ∙ ap (λ (l : List ℕ). put (4 * place) (bytes_of l) out) z;
           first_is = omega (arith, s.first_is, rows_at, h);
-          word_is = s.word_is ∙ ap (λ (j : ℕ). word + j) lone-left;
+          word_is = s.word_is ∙ ap (λ (j : ℕ). word + j) lone_left;
           at_is = s.at_is ∙ ap (λ (j : ℕ). place + j) whole.dwords_are;
         })
 
@@ -182,7 +182,7 @@ module _ (left : ℕ) (rs ws : List ℕ) (first word place n : ℕ) (g : Ready (
     flat_rows = rows_at ∙ (whole.flat h).one_row
 
     pub indices_few : (d : ℕ) → 0 < d → at 6 (row_from first rs) ≡ d → Few (row_from first rs) d
-    indices_few d l e = record { no_reprs = h; left_is = lone-left flat_rows ∙ (whole.flat h).words_are (omega arith) ∙ e }
+    indices_few d l e = record { no_reprs = h; left_is = lone_left flat_rows ∙ (whole.flat h).words_are (omega arith) ∙ e }
 
     pub dwords_few : at 3 (row_from first rs) ≡ 0 → (k : ℕ) → at 15 (row_from first rs) ≡ k + 1 → Few (row_from first rs) k
     dwords_few m k e = record { no_reprs = h; left_is = omega (arith, ap length (no_extension (at 3 (row_from first rs)) m)) }
@@ -204,15 +204,15 @@ module _ (left : ℕ) (rs ws : List ℕ) (first word place n : ℕ) (g : Ready (
     abbrev P : ℕ → ℕ → ℕ → Option Tree
     P i = standing (confirm_index (confirm (left - 1)) i) rs ws
 
-    three-dwords : dwords g.tree ≡ head_of (row_from first rs) ++ dwords A ++ dwords B ++ dwords C
+    three_dwords : dwords g.tree ≡ head_of (row_from first rs) ++ dwords A ++ dwords B ++ dwords C
     unfolding dwords
-    three-dwords = ap dwords three.is ∙ ap (λ (l : List ℕ). l ++ dwords A ++ dwords B ++ dwords C) (append-nil (head_of (row_from first rs)))
+    three_dwords = ap dwords three.is ∙ ap (λ (l : List ℕ). l ++ dwords A ++ dwords B ++ dwords C) (append-nil (head_of (row_from first rs)))
 
-    three-count : length (dwords g.tree) ≡ length (head_of (row_from first rs)) + length (dwords A) + length (dwords B) + length (dwords C)
-    three-count = ap length three-dwords ∙ four_lengths (head_of (row_from first rs)) (dwords A) (dwords B) (dwords C)
+    three_count : length (dwords g.tree) ≡ length (head_of (row_from first rs)) + length (dwords A) + length (dwords B) + length (dwords C)
+    three_count = ap length three_dwords ∙ four_lengths (head_of (row_from first rs)) (dwords A) (dwords B) (dwords C)
 
     pub deep_head : 4 * (place + length (head_of (row_from first rs))) ≤ n
-    deep_head = omega (arith, three-count, g.room)
+    deep_head = omega (arith, three_count, g.room)
 
     rows_behind : (r s u : ℕ) → u ≡ r + 16 * s → drop (16 * s) (drop r rs) ≡ drop u rs
     rows_behind r s u e = drop-drop (16 * s) r rs ∙ ap (λ (j : ℕ). drop j rs) (sym e)
@@ -221,21 +221,21 @@ module _ (left : ℕ) (rs ws : List ℕ) (first word place n : ℕ) (g : Ready (
     words_behind r s u e = drop-drop s r ws ∙ ap (λ (j : ℕ). drop j ws) (sym e)
 
     module _ (t : ℕ) (et : t ≡ operand_dword (row_from first rs)) {out out₁ : List ℕ} (en : n ≡ length out) (next : ℕ) (hd : Headed (head_of (row_from first rs)) place out next out₁) (i₀ : ℕ) (e₀ : i₀ ≡ repr 0 t) where
-      first-at : P i₀ (first + 16) word ≡ just A
-      first-at = rw (e₀, et, ← (rows_behind first 1 (first + 16) refl), number_behind first 1 (first + 16) refl) three.first_is
+      first_at : P i₀ (first + 16) word ≡ just A
+      first_at = rw (e₀, et, ← (rows_behind first 1 (first + 16) refl), number_behind first 1 (first + 16) refl) three.first_is
 
       pub first_ready : (n₁ : ℕ) → n₁ ≡ n → Ready (P i₀ (first + 16) word) next n₁
-      first_ready n₁ e = record { tree = A; is = first-at; room = omega (arith, three-count, g.room, hd.next_is) }
+      first_ready n₁ e = record { tree = A; is = first_at; room = omega (arith, three_count, g.room, hd.next_is) }
 
       module _ {ends₁ : Ends} {out₂ : List ℕ} (f₀ : Emitted (P i₀ (first + 16) word) (first + 16) word next out₁ ends₁ out₂) (i₁ : ℕ) (e₁ : i₁ ≡ repr 1 t) where
         put₀ : Emitted (just A) (first + 16) word next out₁ ends₁ out₂
-        put₀ = emitted_as first-at f₀
+        put₀ = emitted_as first_at f₀
 
         second_at : P i₁ ends₁.first ends₁.word ≡ just B
         second_at = rw (e₁, et, ← (rows_behind (first + 16) (tree_rows A) ends₁.first put₀.first_is), ← (words_behind word (length (tree_words A)) ends₁.word put₀.word_is), ← (rows_behind first 1 (first + 16) refl), number_behind (first + 16) (tree_rows A) ends₁.first put₀.first_is, number_behind first 1 (first + 16) refl, put₀.word_is) three.second_is
 
         pub second_ready : (n₁ : ℕ) → n₁ ≡ n → Ready (P i₁ ends₁.first ends₁.word) ends₁.at n₁
-        second_ready n₁ e = record { tree = B; is = second_at; room = omega (arith, three-count, g.room, hd.next_is, put₀.at_is) }
+        second_ready n₁ e = record { tree = B; is = second_at; room = omega (arith, three_count, g.room, hd.next_is, put₀.at_is) }
 
         module _ {ends₂ : Ends} {out₃ : List ℕ} (f₁ : Emitted (P i₁ ends₁.first ends₁.word) ends₁.first ends₁.word ends₁.at out₂ ends₂ out₃) (i₂ : ℕ) (e₂ : i₂ ≡ repr 2 t) where
           put₁ : Emitted (just B) ends₁.first ends₁.word ends₁.at out₂ ends₂ out₃
@@ -245,7 +245,7 @@ module _ (left : ℕ) (rs ws : List ℕ) (first word place n : ℕ) (g : Ready (
           third_at = rw (e₂, et, ← (rows_behind ends₁.first (tree_rows B) ends₂.first put₁.first_is), ← (words_behind ends₁.word (length (tree_words B)) ends₂.word put₁.word_is), ← (rows_behind (first + 16) (tree_rows A) ends₁.first put₀.first_is), ← (words_behind word (length (tree_words A)) ends₁.word put₀.word_is), ← (rows_behind first 1 (first + 16) refl), number_behind ends₁.first (tree_rows B) ends₂.first put₁.first_is, number_behind (first + 16) (tree_rows A) ends₁.first put₀.first_is, number_behind first 1 (first + 16) refl, put₁.word_is, put₀.word_is) three.third_is
 
           pub third_ready : (n₁ : ℕ) → n₁ ≡ n → Ready (P i₂ ends₂.first ends₂.word) ends₂.at n₁
-          third_ready n₁ e = record { tree = C; is = third_at; room = omega (arith, three-count, g.room, hd.next_is, put₀.at_is, put₁.at_is) }
+          third_ready n₁ e = record { tree = C; is = third_at; room = omega (arith, three_count, g.room, hd.next_is, put₀.at_is, put₁.at_is) }
 
           module _ {ends₃ : Ends} {out₄ : List ℕ} (f₂ : Emitted (P i₂ ends₂.first ends₂.word) ends₂.first ends₂.word ends₂.at out₃ ends₃ out₄) where
             put₂ : Emitted (just C) ends₂.first ends₂.word ends₂.at out₃ ends₃ out₄
@@ -256,7 +256,7 @@ module _ (left : ℕ) (rs ws : List ℕ) (first word place n : ℕ) (g : Ready (
 
             written : out₄ ≡ put (4 * place) (bytes_of (H ++ dwords A ++ dwords B ++ dwords C)) out
             written =
-                let c = three-count in
+                let c = three_count in
                 let r = g.room in
                 let l₁ = length-append H (dwords A) in
                 let l₂ = length-append (H ++ dwords A) (dwords B) in
@@ -264,20 +264,20 @@ module _ (left : ℕ) (rs ws : List ℕ) (first word place n : ℕ) (g : Ready (
                 let w₂ = dwords_more place ends₁.at (H ++ dwords A) (dwords B) out (omega arith) (omega (arith, put₀.at_is, hd.next_is)) w₁ put₁.output_is in
                 dwords_more place ends₂.at (H ++ dwords A ++ dwords B) (dwords C) out (omega arith) (omega (arith, put₁.at_is, put₀.at_is, hd.next_is)) w₂ put₂.output_is
 
-            deep-rows : tree_rows g.tree ≡ 1 + tree_rows A + tree_rows B + tree_rows C
+            deep_rows : tree_rows g.tree ≡ 1 + tree_rows A + tree_rows B + tree_rows C
             unfolding tree_rows
-            deep-rows = ap tree_rows three.is
+            deep_rows = ap tree_rows three.is
 
-            deep-words : length (tree_words g.tree) ≡ length (tree_words A) + length (tree_words B) + length (tree_words C)
+            deep_words : length (tree_words g.tree) ≡ length (tree_words A) + length (tree_words B) + length (tree_words C)
             unfolding tree_words
-            deep-words = ap (λ (x : Tree). length (tree_words x)) three.is ∙ four_lengths [] (tree_words A) (tree_words B) (tree_words C) ∙ omega arith
+            deep_words = ap (λ (x : Tree). length (tree_words x)) three.is ∙ four_lengths [] (tree_words A) (tree_words B) (tree_words C) ∙ omega arith
 
             pub deep_emitted : Emitted (standing (confirm left) rs ws first word) first word place out ends₃ out₄
             deep_emitted =
                 emitted_of g.is
                 (record {
-                  output_is = written ∙ ap (λ (l : List ℕ). put (4 * place) (bytes_of l) out) (sym three-dwords);
-                  first_is = omega (arith, deep-rows, put₀.first_is, put₁.first_is, put₂.first_is);
-                  word_is = omega (arith, deep-words, put₀.word_is, put₁.word_is, put₂.word_is);
-                  at_is = omega (arith, three-count, hd.next_is, put₀.at_is, put₁.at_is, put₂.at_is);
+                  output_is = written ∙ ap (λ (l : List ℕ). put (4 * place) (bytes_of l) out) (sym three_dwords);
+                  first_is = omega (arith, deep_rows, put₀.first_is, put₁.first_is, put₂.first_is);
+                  word_is = omega (arith, deep_words, put₀.word_is, put₁.word_is, put₂.word_is);
+                  at_is = omega (arith, three_count, hd.next_is, put₀.at_is, put₁.at_is, put₂.at_is);
                 })

@@ -70,12 +70,12 @@ module _ (rs : List ℕ) (r : ℕ) (g : Told (drop (16 * r) rs)) (left : ℕ) (h
   q = drop (16 * r) rs
 
   -- with immediates
-  leaf-walks : {m : ℕ} → Leaf q w m → 0 < m → w + m ≤ length ws → Is 1 m (at 15 q) ≡ walked (there (confirm left) rs ws r w)
-  leaf-walks a hm l = immediates_walk rs r g left hl ws w a.kind a.counted_by hm l a.place a.number a.without.indices a.without.words a.without.others (a.plain.common.second, a.plain.common.third) a.plain.common.rows a.dwords
+  leaf_walks : {m : ℕ} → Leaf q w m → 0 < m → w + m ≤ length ws → Is 1 m (at 15 q) ≡ walked (there (confirm left) rs ws r w)
+  leaf_walks a hm l = immediates_walk rs r g left hl ws w a.kind a.counted_by hm l a.place a.number a.without.indices a.without.words a.without.others (a.plain.common.second, a.plain.common.third) a.plain.common.rows a.dwords
 
   -- with none
-  none-walks : None q → w ≤ length ws → Is 1 0 (at 15 q) ≡ walked (there (confirm left) rs ws r w)
-  none-walks a l =
+  none_walks : None q → w ≤ length ws → Is 1 0 (at 15 q) ≡ walked (there (confirm left) rs ws r w)
+  none_walks a l =
       let f : (i : ℕ) → i < 3 → 8 ≡ repr i (dword_of q) = λ i h. (λ j. cond (no_index i j) (0 / 2 ^ (3 * i) % 2 ^ 3) 8) ∙ repr_of rs r g a.without.indices.0 a.without.indices.1 i h in
       let lr : 16 * (r + 1) ≤ length rs = omega (arith, row_there rs r g) in
       let i₀ = plain_index (left - 1) rs ws (r + 1) w lr false (omega arith) a.without.words.0 a.without.others.1 in
@@ -87,8 +87,8 @@ module _ (rs : List ℕ) (r : ℕ) (g : Told (drop (16 * r) rs)) (left : ℕ) (h
       (λ j. Is (er j) (ew j) (ed j)) ∙ indices_walk rs r g left hl ws w a.kinds.kind a.kinds.no_place a.kinds.no_immediates (f 0 (omega arith)) (f 1 (omega arith)) (f 2 (omega arith)) i₀ i₁ i₂ (a.plain.common.rows ∙ er) ed
 
   -- with d indices of a dword each
-  flat-walks : {d : ℕ} → Flat q w d → w + d ≤ length ws → Is 1 d (at 15 q) ≡ walked (there (confirm left) rs ws r w)
-  flat-walks {d} a l =
+  flat_walks : {d : ℕ} → Flat q w d → w + d ≤ length ws → Is 1 d (at 15 q) ≡ walked (there (confirm left) rs ws r w)
+  flat_walks {d} a l =
       let s = a.starts in
       let n : 1 + cond (ltb 1 d) 1 0 + cond (ltb 2 d) 1 0 ≡ d = flags d a.some a.most in
       let p : true ≡ ltb 0 d = sym (lt-ltb 0 d a.some) in
@@ -238,7 +238,7 @@ leaf_lone {q} {w} {m} a l h = record {
   size = omega (arith, a.dwords);
   walks = λ left rs ws r e b.
       let z : Leaf (drop (16 * r) rs) w m = subst (λ (y : List ℕ). Leaf y w m) e a in
-      ap (λ (y : List ℕ). Is 1 m (at 15 y)) e ∙ leaf-walks rs r (told (drop (16 * r) rs) z.long (omega (arith, z.kind)) z.plain.selection z.plain.signs z.without.indices (omega arith) (omega arith)) (suc left) (λ i. impossible (omega arith)) ws w z l b;
+      ap (λ (y : List ℕ). Is 1 m (at 15 y)) e ∙ leaf_walks rs r (told (drop (16 * r) rs) z.long (omega (arith, z.kind)) z.plain.selection z.plain.signs z.without.indices (omega arith) (omega arith)) (suc left) (λ i. impossible (omega arith)) ws w z l b;
 }
 
 flat_lone : {q : List ℕ} {w d : ℕ} → Flat q w d → Lone q w d
@@ -247,7 +247,7 @@ flat_lone {q} {w} {d} a = record {
   size = a.dwords;
   walks = λ left rs ws r e b.
       let z : Flat (drop (16 * r) rs) w d = subst (λ (y : List ℕ). Flat y w d) e a in
-      ap (λ (y : List ℕ). Is 1 d (at 15 y)) e ∙ flat-walks rs r (told (drop (16 * r) rs) z.long z.starts.kinds.type z.plain.selection z.plain.signs z.indices z.most (pow_pos (3 * d))) (suc left) (λ i. impossible (omega arith)) ws w z b;
+      ap (λ (y : List ℕ). Is 1 d (at 15 y)) e ∙ flat_walks rs r (told (drop (16 * r) rs) z.long z.starts.kinds.type z.plain.selection z.plain.signs z.indices z.most (pow_pos (3 * d))) (suc left) (λ i. impossible (omega arith)) ws w z b;
 }
 
 none_lone : {q : List ℕ} {w : ℕ} → None q → Lone q w 0
@@ -256,7 +256,7 @@ none_lone {q} {w} a = record {
   size = omega (arith, a.dwords);
   walks = λ left rs ws r e b.
       let z : None (drop (16 * r) rs) = subst None e a in
-      ap (λ (y : List ℕ). Is 1 0 (at 15 y)) e ∙ none-walks rs r (told (drop (16 * r) rs) z.long z.kinds.type z.plain.selection z.plain.signs z.without.indices (omega arith) (omega arith)) (suc left) (λ i. impossible (omega arith)) ws w z (omega arith);
+      ap (λ (y : List ℕ). Is 1 0 (at 15 y)) e ∙ none_walks rs r (told (drop (16 * r) rs) z.long z.kinds.type z.plain.selection z.plain.signs z.without.indices (omega arith) (omega arith)) (suc left) (λ i. impossible (omega arith)) ws w z (omega arith);
 }
 
 counted_some : (f : ℕ) → (f ≡ 0 → ⊥) → f < 5 → 0 < counted f

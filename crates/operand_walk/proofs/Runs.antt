@@ -97,38 +97,38 @@ module _ {rs : List ℕ} {r w k stop j v e y : ℕ} (g : Going rs r w k stop j v
   near h = (omega (arith, g.running.words_to, g.running.some), omega (arith, g.running.few, g.running.some), omega (arith, g.running.two_rows, g.running.some))
 
   module _ (h : j < stop) where
-    not-all : g.done < k
-    not-all = omega (arith, g.still)
+    not_all : g.done < k
+    not_all = omega (arith, g.still)
 
     pub further : j + 16 ≤ stop
-    further = omega (arith, g.still, not-all)
+    further = omega (arith, g.still, not_all)
 
     pub row_start : j ≡ 16 * (j / 16)
     row_start = omega (arith, g.row_is h)
 
-    its-row : j / 16 ≡ r + (g.done + e)
-    its-row = omega (arith, g.row_is h)
+    its_row : j / 16 ≡ r + (g.done + e)
+    its_row = omega (arith, g.row_is h)
 
     pub stands_further : {n : ℕ} → n ≤ 4 → (v < 2 ^ 32 → Stands (rows_from j rs) v n 0) → Going rs r w k stop (j + 16) (v + n) e y
     stands_further {n} hn s =
         let z = g.row_is h in
-        let a = stands_on g.running not-all {x = 0} hn (omega arith) (λ l. subst (λ (i : ℕ). Lone (rows_from i rs) v n) z (s l).lone) (λ l. ap (λ (i : ℕ). at 15 (rows_from i rs)) (sym z) ∙ (s l).dwords_are) in
+        let a = stands_on g.running not_all {x = 0} hn (omega arith) (λ l. subst (λ (i : ℕ). Lone (rows_from i rs) v n) z (s l).lone) (λ l. ap (λ (i : ℕ). at 15 (rows_from i rs)) (sym z) ∙ (s l).dwords_are) in
         let ee : e + 0 ≡ e = omega arith in
         let ey : y + 0 ≡ y = omega arith in
-        record { done = g.done + 1; still = omega (arith, g.still, not-all); row_is = λ l. omega (arith, g.row_is h); running = rw (ee, ey) at a }
+        record { done = g.done + 1; still = omega (arith, g.still, not_all); row_is = λ l. omega (arith, g.row_is h); running = rw (ee, ey) at a }
 
     pub lone_further : {n x : ℕ} → n ≤ 4 → (v < 2 ^ 32 → Lone (rows_from j rs) v n) → x ≡ length (extension_of (at 3 (rows_from j rs))) → x < 2 → Going rs r w k stop (j + 16) (v + n) e (y + x)
     lone_further {n} {x} hn s ex hx =
         let z = g.row_is h in
-        let a = stands_on g.running not-all hn (omega arith) (λ l. subst (λ (i : ℕ). Lone (rows_from i rs) v n) z (s l)) (λ l. ap (λ (i : ℕ). at 15 (rows_from i rs)) (sym z) ∙ (s l).size ∙ ap (λ (i : ℕ). 1 + n + i) (sym ex)) in
+        let a = stands_on g.running not_all hn (omega arith) (λ l. subst (λ (i : ℕ). Lone (rows_from i rs) v n) z (s l)) (λ l. ap (λ (i : ℕ). at 15 (rows_from i rs)) (sym z) ∙ (s l).size ∙ ap (λ (i : ℕ). 1 + n + i) (sym ex)) in
         let ee : e + 0 ≡ e = omega arith in
-        record { done = g.done + 1; still = omega (arith, g.still, not-all); row_is = λ l. omega (arith, g.row_is h); running = rw ee at a }
+        record { done = g.done + 1; still = omega (arith, g.still, not_all); row_is = λ l. omega (arith, g.row_is h); running = rw ee at a }
 
     pub two_further : {n x : ℕ} → n ≤ 4 → (v + n ≤ 2 ^ 32 → Pointed (rows_from j rs) (j / 16) v n) → x ≡ length (extension_of (at 3 (rows_from j rs))) → x < 2 → Going rs r w k (stop + 16) (j + 32) (v + n) (e + 1) (y + (1 + x))
     two_further {n} {x} hn s ex hx =
         let z = g.row_is h in
-        let a = points_on g.running not-all hn (omega arith) (λ l. subst (λ (i : ℕ). Pointed (rows_from i rs) (r + (g.done + e)) v n) z (subst (λ (i : ℕ). Pointed (rows_from j rs) i v n) its-row (s l))) (ex ∙ ap (λ (i : ℕ). length (extension_of (at 3 (rows_from i rs)))) z) in
-        record { done = g.done + 1; still = omega (arith, g.still, not-all); row_is = λ l. omega (arith, g.row_is h); running = a }
+        let a = points_on g.running not_all hn (omega arith) (λ l. subst (λ (i : ℕ). Pointed (rows_from i rs) (r + (g.done + e)) v n) z (subst (λ (i : ℕ). Pointed (rows_from j rs) i v n) its_row (s l))) (ex ∙ ap (λ (i : ℕ). length (extension_of (at 3 (rows_from i rs)))) z) in
+        record { done = g.done + 1; still = omega (arith, g.still, not_all); row_is = λ l. omega (arith, g.row_is h); running = a }
 
   pub arrived : stop ≤ j → k ≤ 16 → (end : ℕ) → end < 2 ^ 32 → v ≤ end → {m : ℕ} → m ≡ 1 + y + e * 2 ^ 40 → Ran rs r w k end (m - 1)
   arrived h = finished g.running (omega (arith, g.still))
@@ -199,14 +199,14 @@ lent l = take_all (length l - 0) l (omega arith)
 
 module _ {rs : List ℕ} {r w k stop j v : ℕ} (g : Going rs r w k stop j v 0 0) (h : j < stop) (l : k ≤ length rs / 16 - r) where
   pub rows_there : stop ≤ length rs
-  rows_there = omega (arith, g.row_is h, g.still, not-all g h)
+  rows_there = omega (arith, g.row_is h, g.still, not_all g h)
 
   pub span : k ≤ 16 → Span j stop (length (take (length rs - 0) rs))
   span few = record { row_starts = row_start g h; rows_end = omega (arith, g.still); few = omega (arith, g.still); within = rw (lent rs) rows_there }
 
 the_rest : {rs : List ℕ} {r w k stop j v : ℕ} → Going rs r w k stop j v 0 0 → j < stop → (end x : ℕ) → end < 2 ^ 32 → Ran rs (j / 16) v ((stop - j) / 16) end x → Ran rs r w k end x
 the_rest {rs} {r} {w} {k} {stop} {j} {v} g h end x l a =
-    let er : j / 16 ≡ r + (g.done + 0) = its-row g h in
+    let er : j / 16 ≡ r + (g.done + 0) = its_row g h in
     let ek : (stop - j) / 16 ≡ k - g.done = omega (arith, g.still) in
     let s = g.running in
     let kk : g.done + (stop - j) / 16 ≡ k = omega (arith, ek, s.some) in

@@ -66,8 +66,8 @@ module _ {ds : List ℕ} {at b x n ops ws row word : ℕ} {R : List ℕ} {g : Go
   long : length (tree_words q.tree) ≡ n
   long = ap length y.words_are ∙ some_length n ds b y.enough
 
-  alone-room : Lone (length ds) at b n ops ws word
-  alone-room =
+  alone_room : Lone (length ds) at b n ops ws word
+  alone_room =
       record {
         from = f.from;
         within = y.enough;
@@ -77,8 +77,8 @@ module _ {ds : List ℕ} {at b x n ops ws row word : ℕ} {R : List ℕ} {g : Go
         dwords_fit = omega (arith, y.dwords_are, q.dwords_fit);
       }
 
-  alone-wrote : {a : Sums} {L W L' W' : List ℕ} → Stored ds at b n R L W a L' W' → Wrote g row word L W a L' W'
-  alone-wrote {L = L} {W = W} s =
+  alone_wrote : {a : Sums} {L W L' W' : List ℕ} → Stored ds at b n R L W a L' W' → Wrote g row word L W a L' W'
+  alone_wrote {L = L} {W = W} s =
       let z : 16 ≡ 16 * tree_rows q.tree = omega (arith, y.rows_are) in
       wrote_of q.tree q.rest q.is
       record {
@@ -109,18 +109,18 @@ module _ (t : ℕ) (f : Flat t) where
       go true q = rw (in_dim t f i h (ltb-true i (dimension t) q)) (p (ltb-true i (dimension t) q))
       go false q = rw (past_dim i t (ltb-false i (dimension t) q))
 
-  flat-child : (i : ℕ) → i < 3 → (r : ℕ) → child_row (repr i t) r ≡ 0
+  flat_child : (i : ℕ) → i < 3 → (r : ℕ) → child_row (repr i t) r ≡ 0
   unfolding nests
-  flat-child i h r = go (ltb i (dimension t)) refl
+  flat_child i h r = go (ltb i (dimension t)) refl
     where
       go : (c : Bool) → ltb i (dimension t) ≡ c → child_row (repr i t) r ≡ 0
       go true q = rw (in_dim t f i h (ltb-true i (dimension t) q))
       go false q = rw (past_dim i t (ltb-false i (dimension t) q))
 
-  flat-row : (r w x ds : ℕ) (e ws : List ℕ) → length ws ≡ dimension t → x ≡ modifiers e → ds ≡ length (dwords (flat_tree t e ws))
+  flat_row_lem : (r w x ds : ℕ) (e ws : List ℕ) → length ws ≡ dimension t → x ≡ modifiers e → ds ≡ length (dwords (flat_tree t e ws))
       → operand_row r w t e [] (plain (take 1 ws) none) (plain (take 1 (drop 1 ws)) none) (plain (take 1 (drop 2 ws)) none) ≡ flat_row t x w ds
   unfolding flat_row operand_row tree_rows tree_words
-  flat-row r w x ds e ws l ex ed =
+  flat_row_lem r w x ds e ws l ex ed =
       let a : ℕ = length (tree_words (plain (take 1 ws) none)) in
       let b : ℕ = length (tree_words (plain (take 1 (drop 1 ws)) none)) in
       λ i.
@@ -128,7 +128,7 @@ module _ (t : ℕ) (f : Flat t) where
       flat_word 0 (omega arith) w (w + 0) (λ h. omega arith) i ∷
       flat_word 1 (omega arith) (w + 1) (w + 0 + a) (λ h. first ws (omega arith)) i ∷
       flat_word 2 (omega arith) (w + 2) (w + 0 + a + b) (λ h. second ws (omega arith)) i ∷
-      flat-child 0 (omega arith) (r + 1) i ∷ flat-child 1 (omega arith) (r + 1 + 0) i ∷ flat-child 2 (omega arith) (r + 1 + 0 + 0) i ∷ 1 ∷ sym ed i ∷ []
+      flat_child 0 (omega arith) (r + 1) i ∷ flat_child 1 (omega arith) (r + 1 + 0) i ∷ flat_child 2 (omega arith) (r + 1 + 0 + 0) i ∷ 1 ∷ sym ed i ∷ []
     where
       first : (ws : List ℕ) → 1 < length ws → w + 0 + length (tree_words (plain (take 1 ws) none)) ≡ w + 1
       first [] h = impossible (omega arith)
@@ -144,18 +144,18 @@ module _ {left : ℕ} {ds : List ℕ} {at t b x : ℕ} (o : Entered left ds at t
   abbrev e : List ℕ
   e = slice (at + 1) b ds
 
-  long-e : length e ≡ b - (at + 1)
-  long-e = length-slice (at + 1) b ds o.front.within
+  long_e : length e ≡ b - (at + 1)
+  long_e = length-slice (at + 1) b ds o.front.within
 
   module _ (h : m ≡ true) where
-    leaf-alone : Alone ds at b (immediates t) row word (leaf_row t x word (b - at + immediates t)) q.tree
+    leaf_alone : Alone ds at b (immediates t) row word (leaf_row t x word (b - at + immediates t)) q.tree
     unfolding tree_rows tree_words dwords tree_table
-    leaf-alone =
+    leaf_alone =
         let z : operand left (drop at ds) ≡ read_immediates t e (drop b ds) = o.is ∙ rw (sym em ∙ h) in
         let y = leaf_of ds t e b q.tree q.rest o.front.within (sym z ∙ q.is) in
         let i : List ℕ = take (immediates t) (drop b ds) in
         let li : length i ≡ immediates t = some_length (immediates t) ds b y.enough in
-        let n : length (t ∷ e ++ i ++ [] ++ [] ++ []) ≡ b - at + immediates t = simp length-append (omega (arith, li, long-e, o.front.from)) in
+        let n : length (t ∷ e ++ i ++ [] ++ [] ++ []) ≡ b - at + immediates t = simp length-append (omega (arith, li, long_e, o.front.from)) in
         subst (Alone ds at b (immediates t) row word (leaf_row t x word (b - at + immediates t))) (sym y.is)
         record {
           enough = y.enough;
@@ -166,10 +166,10 @@ module _ {left : ℕ} {ds : List ℕ} {at t b x : ℕ} (o : Entered left ds at t
         }
 
     pub leaf_room : Lone (length ds) at b (immediates t) ops ws word
-    leaf_room = alone-room o.front q leaf-alone
+    leaf_room = alone_room o.front q leaf_alone
 
     pub leaf_wrote : {a : Sums} {L W L' W' : List ℕ} → Stored ds at b (immediates t) (leaf_row t x word (b - at + immediates t)) L W a L' W' → Wrote (operand left (drop at ds)) row word L W a L' W'
-    leaf_wrote s = alone-wrote o.front q leaf-alone s
+    leaf_wrote s = alone_wrote o.front q leaf_alone s
 
   module _ (h : m ≡ false) where
     indices : operand left (drop at ds) ≡ read_indices (operand (left - 1)) t e (drop b ds)
@@ -182,27 +182,27 @@ module _ {left : ℕ} {ds : List ℕ} {at t b x : ℕ} (o : Entered left ds at t
     tree_wrote w = wrote_at indices w
 
     module _ (f : Flat t) where
-      flat-alone : Alone ds at b (dimension t) row word (flat_row t x word (b - at + dimension t)) q.tree
+      flat_alone : Alone ds at b (dimension t) row word (flat_row t x word (b - at + dimension t)) q.tree
       unfolding tree_table tree_rows
-      flat-alone =
+      flat_alone =
           let y = flat_of_lem (operand (left - 1)) ds t e b q.tree q.rest f o.front.within (sym indices ∙ q.is) in
           let u : List ℕ = take (dimension t) (drop b ds) in
           let lu : length u ≡ dimension t = some_length (dimension t) ds b y.enough in
-          let n : length (dwords (flat_tree t e u)) ≡ b - at + dimension t = omega (arith, flat_dwords t e u (omega arith), long-e, o.front.from) in
+          let n : length (dwords (flat_tree t e u)) ≡ b - at + dimension t = omega (arith, flat_dwords t e u (omega arith), long_e, o.front.from) in
           subst (Alone ds at b (dimension t) row word (flat_row t x word (b - at + dimension t))) (sym y.is)
           record {
             enough = y.enough;
             rows_are = refl;
             words_are = flat_words t e u (omega arith);
             dwords_are = n;
-            table_is = simp append-nil (flat-row t f row word x (b - at + dimension t) e u lu o.front.modified (sym n));
+            table_is = simp append-nil (flat_row_lem t f row word x (b - at + dimension t) e u lu o.front.modified (sym n));
           }
 
       pub flat_room : Lone (length ds) at b (dimension t) ops ws word
-      flat_room = alone-room o.front q flat-alone
+      flat_room = alone_room o.front q flat_alone
 
       pub flat_wrote : {a : Sums} {L W L' W' : List ℕ} → Stored ds at b (dimension t) (flat_row t x word (b - at + dimension t)) L W a L' W' → Wrote (operand left (drop at ds)) row word L W a L' W'
-      flat_wrote s = alone-wrote o.front q flat-alone s
+      flat_wrote s = alone_wrote o.front q flat_alone s
 
 -- an operand whose dword t is short: exact, with one index of one dword and no extensions
 module _ (left : ℕ) (ds : List ℕ) (at : ℕ) {ops ws row word : ℕ} (q : Room (operand left (drop at ds)) ops ws row word) (t : ℕ) (et : t ≡ get_or ds at 0) {b : Bool} (eb : b ≡ (eqb (t / 0x100000) 1 && exact_dword t)) (h : b ≡ true) where
@@ -271,8 +271,8 @@ module _ (k : ℕ) (ds : List ℕ) (r at : ℕ) {ops ws row word : ℕ} {b : Sum
   own_room = record { within = counted.within; for_words = omega (arith, counted) }
 
   module _ (m : Bool) (em : m ≡ nests r) {W W₁ : List ℕ} {s₁ : Sums} (y : Owned ds at (own r) b W s₁ W₁) where
-    child-is : not m ≡ false → operand k (drop (at + s₁.dwords) ds) ≡ got indexed.child q.rest
-    child-is h = let z : at + s₁.dwords ≡ at + b.dwords + own r = omega (arith, y.dwords_are) in ap (λ (n : ℕ). operand k (drop n ds)) z ∙ indexed.nested (sym em ∙ not-false m h)
+    child_is : not m ≡ false → operand k (drop (at + s₁.dwords) ds) ≡ got indexed.child q.rest
+    child_is h = let z : at + s₁.dwords ≡ at + b.dwords + own r = omega (arith, y.dwords_are) in ap (λ (n : ℕ). operand k (drop n ds)) z ∙ indexed.nested (sym em ∙ not-false m h)
 
     pub child_room : not m ≡ false → (L : List ℕ) (f : ℕ) → length L ≡ ops → length W₁ ≡ ws → f ≡ 16 * s₁.rows
         → Room (operand k (drop (at + s₁.dwords) ds)) (length (take (length L - f) (drop f L))) (length (take (length W₁ - s₁.words) (drop s₁.words W₁))) (row + s₁.rows) (word + s₁.words)
@@ -282,7 +282,7 @@ module _ (k : ℕ) (ds : List ℕ) (r at : ℕ) {ops ws row word : ℕ} {b : Sum
         record {
           tree = indexed.child;
           rest = q.rest;
-          is = child-is h;
+          is = child_is h;
           for_rows = omega (arith, counted, y);
           for_words = omega (arith, counted, y);
           row_fits = omega (arith, counted, y);
@@ -291,7 +291,7 @@ module _ (k : ℕ) (ds : List ℕ) (r at : ℕ) {ops ws row word : ℕ} {b : Sum
         }
 
     pub child_put : not m ≡ false → {row₁ word₁ : ℕ} {L U : List ℕ} {x : Sums} {L' U' : List ℕ} → Wrote (operand k (drop (at + s₁.dwords) ds)) row₁ word₁ L U x L' U' → Put indexed.child row₁ word₁ L U x L' U'
-    child_put h w = w indexed.child q.rest (child-is h)
+    child_put h w = w indexed.child q.rest (child_is h)
 
     pub flat_put : not m ≡ true → (L : List ℕ) → WroteNext (read_index (operand k) r (drop (at + b.dwords) ds)) row word b L W s₁ L W₁
     unfolding tree_rows tree_words dwords tree_table

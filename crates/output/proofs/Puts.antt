@@ -107,8 +107,8 @@ module _ (ws : List ℕ) (word n at : ℕ) (out₀ : List ℕ) where
   copied_none en = rw en (dwords_none at out₀)
 
   module _ (hw : n ≤ length ws - word) (ho : 4 * (at + n) ≤ length out₀) {out₁ : List ℕ} (e₁ : out₁ ≡ put (4 * at) (bytes_of (get_or ws word 0 ∷ [])) out₀) where
-    copying-one : (n ≡ 0 → ⊥) → Copying ws word n at out₀ 1 out₁
-    copying-one h =
+    copying_one : (n ≡ 0 → ⊥) → Copying ws word n at out₀ 1 out₁
+    copying_one h =
         let some : 0 < n = positive n h in
         record { within = omega arith; is = rw (drop-cons ws word 0 (omega arith)) e₁; long = ap length e₁ ∙ dwords_length at (get_or ws word 0 ∷ []) out₀ (omega arith) }
 
@@ -120,7 +120,7 @@ module _ (ws : List ℕ) (word n at : ℕ) (out₀ : List ℕ) where
     copied_more h h₁ e₂ e₃ =
         let l : 1 < n = above_one n h h₁ in
         let sum : 2 + (n - 2) ≡ n = omega arith in
-        let two = copying_more 1 (copying-one h) hw ho l e₂ in
+        let two = copying_more 1 (copying_one h) hw ho l e₂ in
         let t : length (take 2 (drop word ws)) ≡ 2 = length-take-le 2 (drop word ws) (rw (length-drop word ws) (omega arith)) in
         let z : take 2 (drop word ws) ++ take (n - 2) (drop (word + 2) ws) ≡ take n (drop word ws) =
         ap (λ (k : List ℕ). take 2 (drop word ws) ++ take (n - 2) k) (sym (drop-drop 2 word ws)) ∙ sym (take-add 2 (n - 2) (drop word ws)) ∙ ap (λ (j : ℕ). take j (drop word ws)) sum in
@@ -131,12 +131,12 @@ module _ (ws : List ℕ) (word n at : ℕ) (out₀ : List ℕ) where
       pub copied_two : n ≡ 2 → out₂ ≡ put (4 * at) (bytes_of (take n (drop word ws))) out₀
       copied_two en =
           let sum : 1 + 1 ≡ n = omega arith in
-          (copying_more 1 (copying-one (λ z. impossible (omega arith))) hw ho (omega arith) e₂).is ∙ ap (λ (j : ℕ). put (4 * at) (bytes_of (take j (drop word ws))) out₀) sum
+          (copying_more 1 (copying_one (λ z. impossible (omega arith))) hw ho (omega arith) e₂).is ∙ ap (λ (j : ℕ). put (4 * at) (bytes_of (take j (drop word ws))) out₀) sum
 
       pub copied_four : n ≡ 4 → {out₃ out₄ : List ℕ} → out₃ ≡ put (4 * (at + 2)) (bytes_of (get_or ws (word + 2) 0 ∷ [])) out₂ →
           out₄ ≡ put (4 * (at + 3)) (bytes_of (get_or ws (word + 3) 0 ∷ [])) out₃ → out₄ ≡ put (4 * at) (bytes_of (take n (drop word ws))) out₀
       copied_four en e₃ e₄ =
-          let two = copying_more 1 (copying-one (λ z. impossible (omega arith))) hw ho (omega arith) e₂ in
+          let two = copying_more 1 (copying_one (λ z. impossible (omega arith))) hw ho (omega arith) e₂ in
           let three = copying_more 2 two hw ho (omega arith) e₃ in
           let sum : 3 + 1 ≡ n = omega arith in
           (copying_more 3 three hw ho (omega arith) e₄).is ∙ ap (λ (j : ℕ). put (4 * at) (bytes_of (take j (drop word ws))) out₀) sum

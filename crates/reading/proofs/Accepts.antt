@@ -11,7 +11,7 @@ use Rattle.format.specs.declared.Refusal.{Refusal}
 use Rattle.format.specs.Dwords.{dwords_of, bytes_of}
 use Rattle.format.specs.Framing.{length_of, Framed, instruction, frame, ceiling}
 use Rattle.format.specs.Instructions.{Instruction}
-use Rattle.format.specs.Refusals.{SHEX, first_of, header_tests, header, firstPass, secondPass, readings, accepted, is_model51, body, read_chunk}
+use Rattle.format.specs.Refusals.{SHEX, first_of, header_tests, header, first_pass, second_pass, readings, accepted, is_model51, body, read_chunk}
 use Rattle.format.specs.Encoder.{chunk_of}
 use Rattle.format.proofs.Dwords.{impossible, length_bytes, dwords_bytes}
 use Rattle.format.proofs.Refusals.{Reads, nil, cons, nth_fails, header_SHEX, Chunk}
@@ -24,12 +24,12 @@ unfolding frame
 frame_more k t i left n = rw (← n, some_of (t ∷ i) left (length (t ∷ i)) refl)
 
 record Passes (c : ℕ) (m : Bool) (at : ℕ) (f : Framed) (l : List Instruction) : Type 0 where
-  first : firstPass c m at f ≡ none
-  second : secondPass c m at f ≡ none
+  first : first_pass c m at f ≡ none
+  second : second_pass c m at f ≡ none
   list : readings c m f ≡ l
 
 reads_pass : {c : ℕ} {m : Bool} {ds : List ℕ} {l : List Instruction} → Reads c m ds l → (k at : ℕ) → length ds ≤ k → Passes c m at (frame k ds) l
-unfolding frame firstPass secondPass readings
+unfolding frame first_pass second_pass readings
 reads_pass nil zero at h = record { first = refl; second = refl; list = refl }
 reads_pass nil (suc k) at h = record { first = refl; second = refl; list = refl }
 reads_pass (cons t i left n s e r) zero at h = impossible (omega (arith, ap length s))

@@ -21,7 +21,7 @@ use Rattle.format.proofs.Room as room
 use Rattle.format.proofs.Room.{Fit, fit_append, fit_front, fit_drop}
 use Rattle.operand_deep.proofs.Every.{Every, unmet, met, every_then, every_if, every_of}
 use Rattle.instruction_deep.specs.Confirm.{confirm_instruction}
-use Rattle.reading.specs.Confirm.{confirmAll}
+use Rattle.reading.specs.Confirm.{confirm_all}
 use Rattle.instruction_deep.proofs.Sound.{Confirmed, sound}
 use Rattle.instruction_deep.proofs.Complete.{complete, own_length}
 
@@ -68,8 +68,8 @@ module _ (c : ℕ) (m : Bool) where
         fit = λ f g. fit_append (a.fit (fit_take 16 is f) (fit_take k ws g)) (b.fit (fit_drop 16 f) (fit_drop k g));
       }
 
-all_every : (c : ℕ) (m : Bool) (n place : ℕ) (is rs ws : List ℕ) (r w : ℕ) → length is ≡ 16 * n → Every (AllConfirmed c m n place is rs ws r w) (confirmAll c m n place is rs ws r w)
-unfolding confirmAll
+all_every : (c : ℕ) (m : Bool) (n place : ℕ) (is rs ws : List ℕ) (r w : ℕ) → length is ≡ 16 * n → Every (AllConfirmed c m n place is rs ws r w) (confirm_all c m n place is rs ws r w)
+unfolding confirm_all
 all_every c m zero place is rs ws r w h = every_if (eqb (length rs) 0 && eqb (length ws) 0) _ _
     (λ z. let b = both (eqb (length rs) 0) (eqb (length ws) 0) z in met (all_nil c m place is rs ws r w h (eqb-true (length rs) 0 b.0) (eqb-true (length ws) 0 b.1)))
     (λ z. unmet)
@@ -85,13 +85,13 @@ all_every c m (suc n) place is rs ws r w h =
     (λ y. unmet)))
     (λ z. unmet)
 
-pub all_sound : (c : ℕ) (m : Bool) (n place : ℕ) (is rs ws : List ℕ) (r w : ℕ) (l : List Instruction) → length is ≡ 16 * n → confirmAll c m n place is rs ws r w ≡ just l → AllConfirmed c m n place is rs ws r w l
+pub all_sound : (c : ℕ) (m : Bool) (n place : ℕ) (is rs ws : List ℕ) (r w : ℕ) (l : List Instruction) → length is ≡ 16 * n → confirm_all c m n place is rs ws r w ≡ just l → AllConfirmed c m n place is rs ws r w l
 all_sound c m n place is rs ws r w l h e = every_of e (all_every c m n place is rs ws r w h)
 
 -- ---- what is read is confirmed
 pub all_complete : {c : ℕ} {m : Bool} {ds : List ℕ} {l : List Instruction} → Reads c m ds l → (place r w : ℕ) → place + 4 * length ds ≤ 1_048_576 →
-    confirmAll c m (length l) place (instruction_rows place r w l) (parts_table r w (all_parts l)) (parts_words (all_parts l)) r w ≡ just l
-unfolding confirmAll instruction_rows all_parts
+    confirm_all c m (length l) place (instruction_rows place r w l) (parts_table r w (all_parts l)) (parts_words (all_parts l)) r w ≡ just l
+unfolding confirm_all instruction_rows all_parts
 all_complete nil place r w h = unfold parts_table parts_words in refl
 all_complete {c} {m} {ds} (cons t i left {j = j} {l = l} n s e k) place r w h =
     let q : List ℕ = instruction_row place r w j in

@@ -18,7 +18,7 @@ use Rattle.format.proofs.Dwords.{impossible, both, length_dwords}
 use Rattle.format.proofs.Rows.{parts_length}
 use Rattle.format.proofs.Refusals.{chunk_accepted}
 use Rattle.format.proofs.Encoder.{Given, given, not_past, chunk_given, bytes_of_lem, counts, Found, not_found, found, chunk_found}
-use Rattle.reading.specs.Confirm.{confirmAll, untold, confirm_chunk}
+use Rattle.reading.specs.Confirm.{confirm_all, untold, confirm_chunk}
 use Rattle.format.proofs.Room as room
 use Rattle.instruction_deep.proofs.Fits.{fit_each}
 use Rattle.reading.proofs.Accepts.{header_untold, chunk_reads}
@@ -58,7 +58,7 @@ confirmed_given e q l f h =
     let v : ℕ = q.version in
     let p : Pools = held q in
     let t : Bool = untold (first_of (header_tests e SHEX 8 v 2)) in
-    let x = cond_just (not (past_pool q) && t) (confirmAll (ceiling e) (is_model51 v) q.instructions 8 p.instructions p.operands p.words 0 0) l h in
+    let x = cond_just (not (past_pool q) && t) (confirm_all (ceiling e) (is_model51 v) q.instructions 8 p.instructions p.operands p.words 0 0) l h in
     let b = both (not (past_pool q)) t x.0 in
     let n = counts q (not-true (past_pool q) b.0) in
     let a = all_sound (ceiling e) (is_model51 v) q.instructions 8 p.instructions p.operands p.words 0 0 l n.instructions x.1 in
@@ -86,10 +86,10 @@ given_confirmed e q chunk y g =
 pub chunk_confirmed : (edition : ℕ) (q : Rows) → Fit q → chunk_giving edition q ≡ chunk_of_all q.version (confirm_chunk edition q)
 chunk_confirmed edition q f = go (confirm_chunk edition q) refl
   where
-    not-given : {o : Option (List ℕ)} → confirm_chunk edition q ≡ nothing → Found edition q o → o ≡ nothing
-    not-given e not_found = refl
-    not-given e (found {chunk = chunk} g) = let z = given_confirmed edition q chunk g.bytes (given g) in impossible (cc)
+    not_given : {o : Option (List ℕ)} → confirm_chunk edition q ≡ nothing → Found edition q o → o ≡ nothing
+    not_given e not_found = refl
+    not_given e (found {chunk = chunk} g) = let z = given_confirmed edition q chunk g.bytes (given g) in impossible (cc)
 
     go : (o : Option (List Instruction)) → confirm_chunk edition q ≡ o → chunk_giving edition q ≡ chunk_of_all q.version o
-    go nothing e = not-given e (chunk_found edition q)
+    go nothing e = not_given e (chunk_found edition q)
     go (just l) e = chunk_given (unfold chunk_of in bytes_of_lem _) (confirmed_given edition q l f e)

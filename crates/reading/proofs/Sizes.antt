@@ -14,7 +14,7 @@ use Rattle.format.specs.Instructions.{Instruction, all_dwords}
 use Rattle.format.specs.Refusals.{Rows, SHEX, first_of, header_tests, is_model51}
 use Rattle.format.specs.Encoder.{past_pool, held, chunk_of, chunk_giving}
 use Rattle.format.proofs.Dwords.{length_bytes}
-use Rattle.reading.specs.Confirm.{untold, confirmAll, confirm_chunk}
+use Rattle.reading.specs.Confirm.{untold, confirm_all, confirm_chunk}
 use Rattle.reading.specs.Walks.{lent, read_of, dwords_from}
 use Rattle.reading.specs.declared.Read.{Read}
 use Rattle.reading.specs.declared.Read.TheVariants.{Of, No}
@@ -69,22 +69,22 @@ module _ (e v i o w : ℕ) (is os ws : List ℕ) where
     unfolding past_pool
     inside = rw (le-ltb (length is) (16 * i) hi, le-ltb (length os) (16 * o) ho, le-ltb (length ws) w hw)
 
-    as-confirmed : dwords_from 2 (confirm_chunk e q) ≡ read_of (chunk_giving e q)
-    as-confirmed = all_dwords_lem v (confirm_chunk e q) ∙ ap read_of (sym (chunk_confirmed e q f))
+    as_confirmed : dwords_from 2 (confirm_chunk e q) ≡ read_of (chunk_giving e q)
+    as_confirmed = all_dwords_lem v (confirm_chunk e q) ∙ ap read_of (sym (chunk_confirmed e q f))
 
     pub version_none : false ≡ untold (first_of (header_tests e SHEX 8 v 2)) → No ≡ read_of (chunk_giving e q)
     unfolding confirm_chunk
     version_none h =
         let z : confirm_chunk e q ≡ nothing = rw (inside, ← h) in
-        sym (ap (dwords_from 2) z) ∙ as-confirmed
+        sym (ap (dwords_from 2) z) ∙ as_confirmed
 
     pub all_walked : true ≡ untold (first_of (header_tests e SHEX 8 v 2)) → {a b n c : ℕ} {m : Bool} → a ≡ i → b ≡ o → n ≡ w → c ≡ ceiling e → m ≡ is_model51 v → {r : Read} →
-        r ≡ dwords_from 2 (confirmAll c m (length (take (a * 16 - 0) (drop 0 is)) / 16) 8 (take (a * 16 - 0) (drop 0 is)) (take (b * 16 - 0) (drop 0 os)) (take (n - 0) (drop 0 ws)) 0 0) → r ≡ read_of (chunk_giving e q)
+        r ≡ dwords_from 2 (confirm_all c m (length (take (a * 16 - 0) (drop 0 is)) / 16) 8 (take (a * 16 - 0) (drop 0 is)) (take (b * 16 - 0) (drop 0 os)) (take (n - 0) (drop 0 ws)) 0 0) → r ≡ read_of (chunk_giving e q)
     unfolding confirm_chunk held
     all_walked h {a} {b} {n} {c} {m} ea eb en ec em er =
         let za : a * 16 - 0 ≡ 16 * i = omega (arith, ea) in
         let zb : b * 16 - 0 ≡ 16 * o = omega (arith, eb) in
         let zn : n - 0 ≡ w = omega (arith, en) in
         let k : length (take (16 * i) is) / 16 ≡ i = omega (arith, length-take-le (16 * i) is hi) in
-        let z : confirmAll (ceiling e) (is_model51 v) i 8 (take (16 * i) is) (take (16 * o) os) (take w ws) 0 0 ≡ confirm_chunk e q = rw (inside, ← h) in
-        er ∙ (λ j. dwords_from 2 (confirmAll (ec j) (em j) (length (take (za j) is) / 16) 8 (take (za j) is) (take (zb j) os) (take (zn j) ws) 0 0)) ∙ ap (λ (y : ℕ). dwords_from 2 (confirmAll (ceiling e) (is_model51 v) y 8 (take (16 * i) is) (take (16 * o) os) (take w ws) 0 0)) k ∙ ap (dwords_from 2) z ∙ as-confirmed
+        let z : confirm_all (ceiling e) (is_model51 v) i 8 (take (16 * i) is) (take (16 * o) os) (take w ws) 0 0 ≡ confirm_chunk e q = rw (inside, ← h) in
+        er ∙ (λ j. dwords_from 2 (confirm_all (ec j) (em j) (length (take (za j) is) / 16) 8 (take (za j) is) (take (zb j) os) (take (zn j) ws) 0 0)) ∙ ap (λ (y : ℕ). dwords_from 2 (confirm_all (ceiling e) (is_model51 v) y 8 (take (16 * i) is) (take (16 * o) os) (take w ws) 0 0)) k ∙ ap (dwords_from 2) z ∙ as_confirmed

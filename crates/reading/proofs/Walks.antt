@@ -22,7 +22,7 @@ use Rattle.instruction_deep.specs.Confirm.{confirm_instruction}
 use Rattle.instruction_deep.specs.Walks.{walked_instruction}
 use Rattle.instruction_deep.specs.declared.Walked.{Walked}
 use Rattle.instruction_deep.specs.declared.Walked.TheVariants.{Is, Not}
-use Rattle.reading.specs.Confirm.{confirmAll}
+use Rattle.reading.specs.Confirm.{confirm_all}
 use Rattle.reading.specs.Walks.{dwords_from, spot, onward, answer, Walking, Steps, on, off}
 use Rattle.reading.specs.declared.Read.{Read}
 use Rattle.reading.specs.declared.Read.TheVariants.{Of, No}
@@ -96,10 +96,10 @@ module _ (c : ℕ) (m : Bool) (is rs ws : List ℕ) (s : Walk) (h : s.instructio
   abbrev after : Instruction → Option (List Instruction)
   after i =
       cond (leb (4 * s.at + 4 * length (dwords i)) 1_048_576)
-      (◌>>=◌ (confirmAll c m (length is / 16 - (s.instruction + 1)) (4 * s.at + 4 * length (dwords i)) (drop 16 (drop (16 * s.instruction) is)) (drop (16 * parts_rows (parts i)) (drop (16 * s.row) rs)) (drop n (drop s.word ws)) (s.row + parts_rows (parts i)) (s.word + n)) (λ l. just (i ∷ l))) nothing
+      (◌>>=◌ (confirm_all c m (length is / 16 - (s.instruction + 1)) (4 * s.at + 4 * length (dwords i)) (drop 16 (drop (16 * s.instruction) is)) (drop (16 * parts_rows (parts i)) (drop (16 * s.row) rs)) (drop n (drop s.word ws)) (s.row + parts_rows (parts i)) (s.word + n)) (λ l. just (i ∷ l))) nothing
 
   here : onward c m is rs ws s ≡ cond (leb n (length (drop s.word ws))) (◌>>=◌ mine after) nothing
-  unfolding confirmAll
+  unfolding confirm_all
   here =
       let k : length is / 16 - s.instruction ≡ suc (length is / 16 - (s.instruction + 1)) = omega arith in
       rw (k, word_count)
@@ -123,23 +123,23 @@ module _ (c : ℕ) (m : Bool) (is rs ws : List ℕ) (s : Walk) (h : s.instructio
           let v : drop n (drop s.word ws) ≡ drop (s.word + n) ws = drop-drop n s.word ws in
           let u : s.row + parts_rows (parts i) ≡ s.row + r = omega (arith, o.rows) in
           onto ∙ rw (le-leb (4 * s.at + 4 * length (dwords i)) 1_048_576 k)
-          (λ j. ◌>>=◌ (confirmAll c m (length is / 16 - (s.instruction + 1)) (p j) (a j) (b j) (v j) (u j) (s.word + n)) (λ l. just (i ∷ l)))
+          (λ j. ◌>>=◌ (confirm_all c m (length is / 16 - (s.instruction + 1)) (p j) (a j) (b j) (v j) (u j) (s.word + n)) (λ l. just (i ∷ l)))
 
 -- the ways past it: its row begins at the word a of the rows, and its token stands at the byte p
 module _ {c : ℕ} {m : Bool} {is rs ws : List ℕ} {s : Walk} {whole : Read} (y : Walking c m is rs ws s whole) (h : s.instruction < length is / 16) {a p n : ℕ} (ea : a ≡ s.instruction * 16) (ep : p ≡ s.at * 4) (ek : n ≡ get_or is (a + 15) 0) where
-  own-words : n ≡ get_or is (s.instruction * 16 + 15) 0
-  own-words = ek ∙ ap (λ (k : ℕ). get_or is (k + 15) 0) ea
+  own_words : n ≡ get_or is (s.instruction * 16 + 15) 0
+  own_words = ek ∙ ap (λ (k : ℕ). get_or is (k + 15) 0) ea
 
   abbrev next_one : Option Instruction
-  next_one = mine c m is rs ws s h own-words
+  next_one = mine c m is rs ws s h own_words
 
-  none-on : onward c m is rs ws s ≡ nothing → Steps c m is rs ws s.instruction whole Off
-  none-on k = off (sym (no_answer s.at k) ∙ y.same)
+  none_on : onward c m is rs ws s ≡ nothing → Steps c m is rs ws s.instruction whole Off
+  none_on k = off (sym (no_answer s.at k) ∙ y.same)
 
   pub words_off : length ws < s.word + n → Steps c m is rs ws s.instruction whole Off
   words_off z =
-      let k : onward c m is rs ws s ≡ nothing = here c m is rs ws s h own-words ∙ rw (lt-leb n (length (drop s.word ws)) (omega (arith, length-drop s.word ws, y.word_within))) in
-      none-on k
+      let k : onward c m is rs ws s ≡ nothing = here c m is rs ws s h own_words ∙ rw (lt-leb n (length (drop s.word ws)) (omega (arith, length-drop s.word ws, y.word_within))) in
+      none_on k
 
   module _ (z : s.word + n ≤ length ws) {v : Walked} (x : v ≡ walked_instruction (confirm_instruction c m (take 16 (drop a is)) p (drop (16 * s.row) rs) (drop s.word (take ((s.word + n) - 0) (drop 0 ws))) s.row s.word)) where
     enough : n ≤ length ws - s.word
@@ -155,50 +155,50 @@ module _ {c : ℕ} {m : Bool} {is rs ws : List ℕ} {s : Walk} {whole : Read} (y
 
     pub none_off : v ≡ Not → Steps c m is rs ws s.instruction whole Off
     none_off k =
-        let e : onward c m is rs ws s ≡ nothing = there c m is rs ws s h own-words enough ∙ rw (is_none next_one told k) in
-        none-on e
+        let e : onward c m is rs ws s ≡ nothing = there c m is rs ws s h own_words enough ∙ rw (is_none next_one told k) in
+        none_on e
 
     module _ {r d : ℕ} (k : v ≡ Is r d) where
       it : One next_one r d
       it = is_one _ told k
 
-      it-sound : Confirmed c m (next_row is s) (4 * s.at) (drop (16 * s.row) rs) (take n (drop s.word ws)) s.row s.word it.one
-      it-sound = sound c m (next_row is s) (4 * s.at) (drop (16 * s.row) rs) (take n (drop s.word ws)) s.row s.word it.one (length-take-le n (drop s.word ws) (omega (arith, length-drop s.word ws, enough)) ∙ sym (word_count c m is rs ws s h own-words)) it.is
+      it_sound : Confirmed c m (next_row is s) (4 * s.at) (drop (16 * s.row) rs) (take n (drop s.word ws)) s.row s.word it.one
+      it_sound = sound c m (next_row is s) (4 * s.at) (drop (16 * s.row) rs) (take n (drop s.word ws)) s.row s.word it.one (length-take-le n (drop s.word ws) (omega (arith, length-drop s.word ws, enough)) ∙ sym (word_count c m is rs ws s h own_words)) it.is
 
       pub rows_fit : 16 * (s.row + r) ≤ length rs
       rows_fit =
           let i : Instruction = it.one in
           let t : List ℕ = parts_table s.row s.word (parts i) in
-          omega (arith, ap length it-sound.rows, length-append t (drop (16 * parts_rows (parts i)) (drop (16 * s.row) rs)), parts_length s.row s.word (parts i), length-drop (16 * s.row) rs, it.rows, y.row_within)
+          omega (arith, ap length it_sound.rows, length-append t (drop (16 * parts_rows (parts i)) (drop (16 * s.row) rs)), parts_length s.row s.word (parts i), length-drop (16 * s.row) rs, it.rows, y.row_within)
 
       -- its place and its dwords are what its row tells, which no number of 32 bits passes
-      place-told : p ≡ get_or is a 0
-      place-told =
+      place_told : p ≡ get_or is a 0
+      place_told =
           let q : p ≡ 4 * s.at = omega (arith, ep) in
           let z : 16 * s.instruction + 0 ≡ a = omega (arith, ea) in
-          q ∙ sym (row_place (4 * s.at) s.row s.word it.one) ∙ sym (ap (at 0) it-sound.row) ∙ row_at is (16 * s.instruction) 0 (lit< tt) ∙ ap (λ (j : ℕ). get_or is j 0) z
+          q ∙ sym (row_place (4 * s.at) s.row s.word it.one) ∙ sym (ap (at 0) it_sound.row) ∙ row_at is (16 * s.instruction) 0 (lit< tt) ∙ ap (λ (j : ℕ). get_or is j 0) z
 
-      size-told : d ≡ get_or is (a + 1) 0
-      size-told =
+      size_told : d ≡ get_or is (a + 1) 0
+      size_told =
           let z : 16 * s.instruction + 1 ≡ a + 1 = omega (arith, ea) in
-          it.dwords_are ∙ sym (row_size (4 * s.at) s.row s.word it.one) ∙ sym (ap (at 1) it-sound.row) ∙ row_at is (16 * s.instruction) 1 (lit< tt) ∙ ap (λ (j : ℕ). get_or is j 0) z
+          it.dwords_are ∙ sym (row_size (4 * s.at) s.row s.word it.one) ∙ sym (ap (at 1) it_sound.row) ∙ row_at is (16 * s.instruction) 1 (lit< tt) ∙ ap (λ (j : ℕ). get_or is j 0) z
 
       pub near : ((j : ℕ) → get_or is j 0 < 2 ^ 32) → p + d * 4 < 2 ^ 35
-      near f = omega (arith, place-told, size-told, f a, f (a + 1))
+      near f = omega (arith, place_told, size_told, f a, f (a + 1))
 
       -- nothing is confirmed where it goes on past the first 1,048,576 bytes
       too_long : 262_144 < s.at + d → onward c m is rs ws s ≡ nothing
-      too_long l = onto c m is rs ws s h own-words enough it ∙ rw (lt-leb (4 * s.at + 4 * length (dwords it.one)) 1_048_576 (omega (arith, it.dwords_are)))
+      too_long l = onto c m is rs ws s h own_words enough it ∙ rw (lt-leb (4 * s.at + 4 * length (dwords it.one)) 1_048_576 (omega (arith, it.dwords_are)))
 
       -- the answer stays the same past it: inside, as many dwords are told; beyond, none is right, neither from here nor from there
-      same-past : (b : Bool) → leb (s.at + d) 262_144 ≡ b → answer c m is rs ws (past s r d n) ≡ answer c m is rs ws s
-      same-past true e =
+      same_past : (b : Bool) → leb (s.at + d) 262_144 ≡ b → answer c m is rs ws (past s r d n) ≡ answer c m is rs ws s
+      same_past true e =
           let l : s.at + d ≤ 262_144 = leb-true (s.at + d) 262_144 e in
-          rw (e, le-leb s.at 262_144 (omega arith)) (more s.at d it.one it.dwords_are (onward c m is rs ws (past s r d n)) ∙ ap (dwords_from s.at) (sym (from c m is rs ws s h own-words enough it (omega (arith, it.dwords_are)))))
-      same-past false e = rw e (sym (no_answer s.at (too_long (leb-false (s.at + d) 262_144 e))))
+          rw (e, le-leb s.at 262_144 (omega arith)) (more s.at d it.one it.dwords_are (onward c m is rs ws (past s r d n)) ∙ ap (dwords_from s.at) (sym (from c m is rs ws s h own_words enough it (omega (arith, it.dwords_are)))))
+      same_past false e = rw e (sym (no_answer s.at (too_long (leb-false (s.at + d) 262_144 e))))
 
       pub walked_past : ((j : ℕ) → get_or is j 0 < 2 ^ 32) → Walking c m is rs ws (past s r d n) whole
-      walked_past f = record { at_most = omega (arith, ep, near f); row_within = rows_fit; word_within = z; same = same-past (leb (s.at + d) 262_144) refl ∙ y.same }
+      walked_past f = record { at_most = omega (arith, ep, near f); row_within = rows_fit; word_within = z; same = same_past (leb (s.at + d) 262_144) refl ∙ y.same }
 
 -- ---- a walk as it is counted while it goes ahead
 spot_of : (s : Walk) → spot (s.at * 4) (s.instruction * 16) s.row s.word ≡ s
@@ -295,15 +295,15 @@ module _ {c : ℕ} {m : Bool} {is rs ws : List ℕ} {k : ℕ} {whole : Read} whe
   went_off (off x) e = x
 
 -- before the first instruction
-pub begin : (c : ℕ) (m : Bool) (is rs ws : List ℕ) → Walking c m is rs ws (record { at = 2; instruction = 0; row = 0; word = 0 }) (dwords_from 2 (confirmAll c m (length is / 16) 8 is rs ws 0 0))
+pub begin : (c : ℕ) (m : Bool) (is rs ws : List ℕ) → Walking c m is rs ws (record { at = 2; instruction = 0; row = 0; word = 0 }) (dwords_from 2 (confirm_all c m (length is / 16) 8 is rs ws 0 0))
 begin c m is rs ws =
     let z : length is / 16 - 0 ≡ length is / 16 = omega arith in
-    record { at_most = omega arith; row_within = omega arith; word_within = omega arith; same = ap (λ (n : ℕ). dwords_from 2 (confirmAll c m n 8 is rs ws 0 0)) z }
+    record { at_most = omega arith; row_within = omega arith; word_within = omega arith; same = ap (λ (n : ℕ). dwords_from 2 (confirm_all c m n 8 is rs ws 0 0)) z }
 
 -- behind the last
 ended : (c : ℕ) (m : Bool) (is rs ws : List ℕ) (s : Walk) → length is / 16 ≤ s.instruction →
     onward c m is rs ws s ≡ cond (eqb (length (drop (16 * s.row) rs)) 0 && eqb (length (drop s.word ws)) 0) (just []) nothing
-unfolding confirmAll
+unfolding confirm_all
 ended c m is rs ws s h =
     let k : length is / 16 - s.instruction ≡ 0 = omega arith in
     rw k

@@ -12,15 +12,15 @@ use Rattle.instruction_deep.specs.Confirm.{confirm_instruction}
 module _ (ceiling : ℕ) (model51 : Bool) where
   -- n instructions, the first of which stands at a place, from their rows, operand rows and words, all of them; the last ends in the first
   -- 1,048,576 bytes
-  unfoldable pub confirmAll : ℕ → ℕ → List ℕ → List ℕ → List ℕ → ℕ → ℕ → Option (List Instruction)
-  confirmAll zero place is rs ws r w = cond (eqb (length rs) 0 && eqb (length ws) 0) (just []) nothing
-  confirmAll (suc n) place is rs ws r w =
+  unfoldable pub confirm_all : ℕ → ℕ → List ℕ → List ℕ → List ℕ → ℕ → ℕ → Option (List Instruction)
+  confirm_all zero place is rs ws r w = cond (eqb (length rs) 0 && eqb (length ws) 0) (just []) nothing
+  confirm_all (suc n) place is rs ws r w =
       let q = take 16 is in
       let k = at 15 q in
       cond (leb k (length ws)) (do
         i ← confirm_instruction ceiling model51 q place rs (take k ws) r w
         cond (leb (place + 4 * length (dwords i)) 1_048_576) (do
-          l ← confirmAll n (place + 4 * length (dwords i)) (drop 16 is) (drop (16 * parts_rows (parts i)) rs) (drop k ws) (r + parts_rows (parts i)) (w + k)
+          l ← confirm_all n (place + 4 * length (dwords i)) (drop 16 is) (drop (16 * parts_rows (parts i)) rs) (drop k ws) (r + parts_rows (parts i)) (w + k)
           just (i ∷ l)) nothing) nothing
 
 -- no test of the header holds; it is asked of a chunk without instructions, since the length of others is right
@@ -33,4 +33,4 @@ unfoldable pub confirm_chunk : ℕ → Rows → Option (List Instruction)
 confirm_chunk edition q =
     let p = held q in
     cond (not (past_pool q) && untold (first_of (header_tests edition SHEX 8 q.version 2)))
-    (confirmAll (ceiling edition) (is_model51 q.version) q.instructions 8 p.instructions p.operands p.words 0 0) nothing
+    (confirm_all (ceiling edition) (is_model51 q.version) q.instructions 8 p.instructions p.operands p.words 0 0) nothing

@@ -2,7 +2,7 @@
 use Rattle.format.specs.Basis.{ℕ, ◌+◌, ◌-◌, ◌*◌, ◌/◌, ◌^◌, ◌<◌, ◌≤◌, ◌≡◌, List, Option, none as nothing, some as just, Bool, cond, length, drop, leb}
 use Rattle.format.specs.Instructions.{Instruction, all_dwords}
 use Rattle.format.specs.Refusals.{Rows}
-use Rattle.reading.specs.Confirm.{confirmAll}
+use Rattle.reading.specs.Confirm.{confirm_all}
 use Rattle.reading.specs.declared.Read.{Read}
 use Rattle.reading.specs.declared.Read.TheVariants.{Of, No}
 use Rattle.reading.specs.declared.Walk.{Walk}
@@ -30,7 +30,7 @@ spot place first row word = record { at = place / 4; instruction = first / 16; r
 module _ (ceiling : ℕ) (model51 : Bool) (is rs ws : List ℕ) where
   -- what is confirmed from a walk so far on
   abbrev pub onward : Walk → Option (List Instruction)
-  onward s = confirmAll ceiling model51 (length is / 16 - s.instruction) (4 * s.at) (drop (16 * s.instruction) is) (drop (16 * s.row) rs) (drop s.word ws) s.row s.word
+  onward s = confirm_all ceiling model51 (length is / 16 - s.instruction) (4 * s.at) (drop (16 * s.instruction) is) (drop (16 * s.row) rs) (drop s.word ws) s.row s.word
 
   -- what the answer is, from a walk so far on: none, if it is past the first 1,048,576 bytes, since no chunk is so long
   abbrev pub answer : Walk → Read

@@ -153,7 +153,7 @@ fn walk_all(
     model51: bool,
 ) -> Read
     requires { (16 * (length instructions.now / 16) ≡ length instructions.now) × (length words.now < 2 ^ 32) × (ceiling ≤ 2048) }
-    ensures { result ≡ w.dwords_from 2 (c.confirmAll ceiling model51 (length instructions.now / 16) 8 instructions.now operands.now words.now 0 0) }
+    ensures { result ≡ w.dwords_from 2 (c.confirm_all ceiling model51 (length instructions.now / 16) 8 instructions.now operands.now words.now 0 0) }
 {
     let n = instructions.len() / 16;
     let mut s = Walk {

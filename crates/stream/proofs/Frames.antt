@@ -6,7 +6,7 @@ use lib.ListN.{length, get_or, take, drop, length-drop, length-append, drop_of_l
 use lib.Seq.{drop-cons, take-add, drop_at, length-take-le, slice}
 use native.Mathlib.Omega.{arith}
 use Rattle.format.specs.Dwords.{dwords_of, Got, malformed, got, some}
-use Rattle.format.specs.Framing.{length_of, Framed, whole, zeroLength, pastEnd, instruction, cut, frame}
+use Rattle.format.specs.Framing.{length_of, Framed, whole, zero_length, past_end, instruction, cut, frame}
 use Rattle.format.proofs.Dwords.{impossible, All, unmet, met, some_length}
 use Rattle.tokens.proofs.Bytes.{drop_dwords, take_dwords}
 use Rattle.tokens.proofs.Places.{some_whole, some_short}
@@ -56,27 +56,27 @@ module _ (ds : List ℕ) (at n : ℕ) (h : at < length ds) (e : n ≡ length_of 
   frame_at : (k : ℕ) → frame (suc k) (drop at ds) ≡ cut n (some n (drop at ds)) (λ l. frame k l)
   frame_at k = frame_cons k (drop at ds) (get_or ds at 0) (drop (suc at) ds) (drop-cons ds at 0 h) ∙ ap (λ (i : ℕ). cut i (some i (drop at ds)) (λ l. frame k l)) (sym e)
 
-  pub frame_zero : n ≡ 0 → frame (length ds) (drop at ds) ≡ zeroLength
+  pub frame_zero : n ≡ 0 → frame (length ds) (drop at ds) ≡ zero_length
   frame_zero z = go (length ds) refl
     where
-      go : (k : ℕ) → k ≡ length ds → frame k (drop at ds) ≡ zeroLength
+      go : (k : ℕ) → k ≡ length ds → frame k (drop at ds) ≡ zero_length
       go zero q = impossible (omega arith)
       go (suc k) q = frame_at k ∙ ap (λ (i : ℕ). cut i (some n (drop at ds)) (λ l. frame k l)) z
 
-  cut-past : (i : ℕ) (f : List ℕ → Framed) → 0 < i → cut i malformed f ≡ pastEnd
-  cut-past zero f z = impossible (omega arith)
-  cut-past (suc i) f z = refl
+  cut_past : (i : ℕ) (f : List ℕ → Framed) → 0 < i → cut i malformed f ≡ past_end
+  cut_past zero f z = impossible (omega arith)
+  cut_past (suc i) f z = refl
 
-  cut-next : (i : ℕ) (x r : List ℕ) (f : List ℕ → Framed) → 0 < i → cut i (got x r) f ≡ instruction x (f r)
-  cut-next zero x r f z = impossible (omega arith)
-  cut-next (suc i) x r f z = refl
+  cut_next : (i : ℕ) (x r : List ℕ) (f : List ℕ → Framed) → 0 < i → cut i (got x r) f ≡ instruction x (f r)
+  cut_next zero x r f z = impossible (omega arith)
+  cut_next (suc i) x r f z = refl
 
-  pub frame_past : 0 < n → length ds - at < n → frame (length ds) (drop at ds) ≡ pastEnd
+  pub frame_past : 0 < n → length ds - at < n → frame (length ds) (drop at ds) ≡ past_end
   frame_past z p = go (length ds) refl
     where
-      go : (k : ℕ) → k ≡ length ds → frame k (drop at ds) ≡ pastEnd
+      go : (k : ℕ) → k ≡ length ds → frame k (drop at ds) ≡ past_end
       go zero q = impossible (omega arith)
-      go (suc k) q = frame_at k ∙ ap (λ (g : Got (List ℕ)). cut n g (λ l. frame k l)) (some_short n ds at (omega arith) (omega arith)) ∙ cut-past n (λ l. frame k l) z
+      go (suc k) q = frame_at k ∙ ap (λ (g : Got (List ℕ)). cut n g (λ l. frame k l)) (some_short n ds at (omega arith) (omega arith)) ∙ cut_past n (λ l. frame k l) z
 
   pub frame_next : 0 < n → n ≤ length ds - at → frame (length ds) (drop at ds) ≡ instruction (slice at (at + n) ds) (frame (length ds) (drop (at + n) ds))
   frame_next z p = go (length ds) refl
@@ -84,5 +84,5 @@ module _ (ds : List ℕ) (at n : ℕ) (h : at < length ds) (e : n ≡ length_of 
       go : (k : ℕ) → k ≡ length ds → frame k (drop at ds) ≡ instruction (slice at (at + n) ds) (frame k (drop (at + n) ds))
       go zero q = impossible (omega arith)
       go (suc k) q =
-          frame_at k ∙ ap (λ (g : Got (List ℕ)). cut n g (λ l. frame k l)) (some_whole n ds at (omega arith)) ∙ cut-next n (take n (drop at ds)) (drop (at + n) ds) (λ l. frame k l) z ∙
+          frame_at k ∙ ap (λ (g : Got (List ℕ)). cut n g (λ l. frame k l)) (some_whole n ds at (omega arith)) ∙ cut_next n (take n (drop at ds)) (drop (at + n) ds) (λ l. frame k l) z ∙
           (λ i. instruction (slice_take ds at n (omega arith) i) (frame_more k (drop (at + n) ds) (simp length-drop (omega arith)) i))

@@ -8,7 +8,7 @@ use lib.ListN.{length, get_or, drop}
 use Rattle.format.specs.declared.Refusal.{Refusal}
 use Rattle.format.specs.Framing.{Framed, frame}
 use Rattle.format.specs.Instructions.{Instruction}
-use Rattle.format.specs.Refusals.{Outcome, refused, accepted, unless, firstPass, secondPass, readings, is_model51, body}
+use Rattle.format.specs.Refusals.{Outcome, refused, accepted, unless, first_pass, second_pass, readings, is_model51, body}
 use Rattle.format.specs.Rows.{parts_rows, parts_words, all_parts}
 use Rattle.format.proofs.Dwords.{impossible}
 use Rattle.stream.specs.declared.Measured.TheVariants.{Fine, Refused}
@@ -30,7 +30,7 @@ module _ (c : ℕ) (ds : List ℕ) where
   body_passes =
       let m : Bool = is_model51 (get_or ds 0 0) in
       let f : Framed = frame (length ds) (drop 2 ds) in
-      unless_versioned (get_or ds 0 0) (firstPass c m 2 f) (secondPass c m 2 f) (readings c m f)
+      unless_versioned (get_or ds 0 0) (first_pass c m 2 f) (second_pass c m 2 f) (readings c m f)
 
   module _ {m : Bool} (q : m ≡ is_model51 (get_or ds 0 0)) where
     body_is : {a : Outcome} → passes c m ds ≡ a → body c ds ≡ versioned (get_or ds 0 0) a

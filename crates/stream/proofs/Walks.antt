@@ -12,9 +12,9 @@ use borrow.Author.Tests.{eq-eqb, ne_eqb}
 use Rattle.format.specs.declared.Refusal.{Refusal}
 use Rattle.format.specs.declared.Refusal.TheVariants.{ZeroLength, PastEnd, OperandCount, Layout}
 use Rattle.format.specs.Dwords.{dwords_of}
-use Rattle.format.specs.Framing.{length_of, Framed, whole, zeroLength, pastEnd, instruction, frame}
+use Rattle.format.specs.Framing.{length_of, Framed, whole, zero_length, past_end, instruction, frame}
 use Rattle.format.specs.Instructions.{Instruction, Reading, ok, miscounted, inexact, read}
-use Rattle.format.specs.Refusals.{accepted, unless, firstPass, secondPass, readings}
+use Rattle.format.specs.Refusals.{accepted, unless, first_pass, second_pass, readings}
 use Rattle.format.specs.Rows.{parts_rows, parts_words, parts, all_parts}
 use Rattle.format.proofs.Dwords.{impossible}
 use Rattle.format.proofs.Instructions.{kept_ok, read_restores}
@@ -85,44 +85,44 @@ begin c m ds h = record { begun = omega arith; within = h; counted = omega arith
     from : onward c m (frame (length ds) (drop 2 ds)) (record { at = 2; instructions = 0; operands = 0; words = 0; late = 0 }) ≡ measured (passes c m ds)
     from =
         let f : Framed = frame (length ds) (drop 2 ds) in
-        told_totals (firstPass c m 2 f) (secondPass c m 2 f) (omega arith) (omega arith) (omega arith) ∙ told_whole (firstPass c m 2 f) (secondPass c m 2 f) (readings c m f)
+        told_totals (first_pass c m 2 f) (second_pass c m 2 f) (omega arith) (omega arith) (omega arith) ∙ told_whole (first_pass c m 2 f) (second_pass c m 2 f) (readings c m f)
 
 -- what an instruction changes
 module _ (c : ℕ) (m : Bool) (s : Walk) where
-  at_zero : Refused (ZeroLength (4 * s.at)) ≡ onward c m zeroLength s
-  unfolding onward firstPass
+  at_zero : Refused (ZeroLength (4 * s.at)) ≡ onward c m zero_length s
+  unfolding onward first_pass
   at_zero = refl
 
-  at-past : Refused (PastEnd (4 * s.at)) ≡ onward c m pastEnd s
-  unfolding onward firstPass
-  at-past = refl
+  at_past : Refused (PastEnd (4 * s.at)) ≡ onward c m past_end s
+  unfolding onward first_pass
+  at_past = refl
 
   module _ (i : List ℕ) (f : Framed) where
-    at-miscounted : read c m i ≡ miscounted → Refused (OperandCount (4 * s.at)) ≡ onward c m (instruction i f) s
-    unfolding onward firstPass
-    at-miscounted e = rw e
+    at_miscounted : read c m i ≡ miscounted → Refused (OperandCount (4 * s.at)) ≡ onward c m (instruction i f) s
+    unfolding onward first_pass
+    at_miscounted e = rw e
 
     module _ (end : ℕ) (z : end ≡ s.at + length i) where
-      at-fine : (j : Instruction) → read c m i ≡ ok j → {r w : ℕ} → r ≡ parts_rows (parts j) → w ≡ length (parts_words (parts j)) →
+      at_fine : (j : Instruction) → read c m i ≡ ok j → {r w : ℕ} → r ≡ parts_rows (parts j) → w ≡ length (parts_words (parts j)) →
           onward c m f (record { at = end; instructions = s.instructions + 1; operands = s.operands + r; words = s.words + w; late = s.late }) ≡ onward c m (instruction i f) s
-      unfolding onward firstPass secondPass readings all_parts
-      at-fine j e {r} {w} p q =
+      unfolding onward first_pass second_pass readings all_parts
+      at_fine j e {r} {w} p q =
           let l : List Instruction = readings c m f in
           rw (e, z)
-          (told_totals (firstPass c m (s.at + length i) f) (since s.late (secondPass c m (s.at + length i) f)) (omega arith) (omega (arith, rows_append (parts j) (all_parts l)))
+          (told_totals (first_pass c m (s.at + length i) f) (since s.late (second_pass c m (s.at + length i) f)) (omega arith) (omega (arith, rows_append (parts j) (all_parts l)))
           (omega (arith, ap length (words_append (parts j) (all_parts l)), length-append (parts_words (parts j)) (parts_words (all_parts l)))))
 
-      since-first : (late p : ℕ) (b : Option Refusal) → 0 < p → since (cond (eqb late 0) p late) b ≡ since late (some (Layout p))
-      since-first zero zero b h = impossible (omega arith)
-      since-first zero (suc p) b h = refl
-      since-first (suc late) p b h = rw (not_zero late)
+      since_first : (late p : ℕ) (b : Option Refusal) → 0 < p → since (cond (eqb late 0) p late) b ≡ since late (some (Layout p))
+      since_first zero zero b h = impossible (omega arith)
+      since_first zero (suc p) b h = refl
+      since_first (suc late) p b h = rw (not_zero late)
 
-      at-inexact : read c m i ≡ inexact → 0 < s.at → onward c m f (noted s end) ≡ onward c m (instruction i f) s
-      unfolding onward firstPass secondPass readings
-      at-inexact e h =
+      at_inexact : read c m i ≡ inexact → 0 < s.at → onward c m f (noted s end) ≡ onward c m (instruction i f) s
+      unfolding onward first_pass second_pass readings
+      at_inexact e h =
           rw (e, z)
-          (ap (λ (b : Option Refusal). told (firstPass c m (s.at + length i) f) b (s.instructions + length (readings c m f)) (s.operands + parts_rows (all_parts (readings c m f))) (s.words + length (parts_words (all_parts (readings c m f)))))
-          (since-first s.late (4 * s.at) (secondPass c m (s.at + length i) f) (omega arith)))
+          (ap (λ (b : Option Refusal). told (first_pass c m (s.at + length i) f) b (s.instructions + length (readings c m f)) (s.operands + parts_rows (all_parts (readings c m f))) (s.words + length (parts_words (all_parts (readings c m f)))))
+          (since_first s.late (4 * s.at) (second_pass c m (s.at + length i) f) (omega arith)))
 
 -- the ways past an instruction
 module _ {c : ℕ} {m : Bool} {ds : List ℕ} {s : Walk} (w : Walking c m ds s) (h : s.at < length ds) {n : ℕ} (e : n ≡ length_of (get_or ds s.at 0) (drop (suc s.at) ds)) where
@@ -130,7 +130,7 @@ module _ {c : ℕ} {m : Bool} {ds : List ℕ} {s : Walk} (w : Walking c m ds s) 
   zero_off z q = off (ap (λ (k : ℕ). Refused (ZeroLength k)) q ∙ at_zero c m s ∙ ap (λ (f : Framed). onward c m f s) (sym (frame_zero ds s.at n h e z)) ∙ w.same)
 
   pub past_off : 0 < n → length ds - s.at < n → {p : ℕ} → p ≡ 4 * s.at → Steps c m ds s.at (Off (PastEnd p))
-  past_off z k q = off (ap (λ (k : ℕ). Refused (PastEnd k)) q ∙ at-past c m s ∙ ap (λ (f : Framed). onward c m f s) (sym (frame_past ds s.at n h e z k)) ∙ w.same)
+  past_off z k q = off (ap (λ (k : ℕ). Refused (PastEnd k)) q ∙ at_past c m s ∙ ap (λ (f : Framed). onward c m f s) (sym (frame_past ds s.at n h e z k)) ∙ w.same)
 
   module _ (z : 0 < n) (k : n ≤ length ds - s.at) where
     here : onward c m (instruction (slice s.at (s.at + n) ds) (frame (length ds) (drop (s.at + n) ds))) s ≡ measured (passes c m ds)
@@ -140,7 +140,7 @@ module _ {c : ℕ} {m : Bool} {ds : List ℕ} {s : Walk} (w : Walking c m ds s) 
     long = omega (arith, length-slice s.at (s.at + n) ds (omega arith))
 
     pub miscounted_off : read c m (slice s.at (s.at + n) ds) ≡ miscounted → {p : ℕ} → p ≡ 4 * s.at → Steps c m ds s.at (Off (OperandCount p))
-    miscounted_off x q = off (ap (λ (k : ℕ). Refused (OperandCount k)) q ∙ at-miscounted c m s _ _ x ∙ here)
+    miscounted_off x q = off (ap (λ (k : ℕ). Refused (OperandCount k)) q ∙ at_miscounted c m s _ _ x ∙ here)
 
     -- rows and words are no more than dwords
     pub fine_fits : {r v : ℕ} → Fined (read c m (slice s.at (s.at + n) ds)) r v → r + v ≤ n
@@ -157,7 +157,7 @@ module _ {c : ℕ} {m : Bool} {ds : List ℕ} {s : Walk} (w : Walking c m ds s) 
           counted = omega (arith, w.counted);
           fits = omega (arith, w.fits, fine_fits x);
           early = omega (arith, w.early);
-          same = at-fine c m s _ _ (s.at + n) long x.one x.is x.rows x.words ∙ here;
+          same = at_fine c m s _ _ (s.at + n) long x.one x.is x.rows x.words ∙ here;
         })
 
     first_early : (late p q : ℕ) → q ≡ cond (eqb late 0) p late → late ≤ p → q ≤ p
@@ -174,7 +174,7 @@ module _ {c : ℕ} {m : Bool} {ds : List ℕ} {s : Walk} (w : Walking c m ds s) 
           counted = omega (arith, w.counted);
           fits = omega (arith, w.fits);
           early = omega (arith, first_early s.late (4 * s.at) _ refl w.early);
-          same = at-inexact c m s _ _ (s.at + n) long x (omega (arith, w.begun)) ∙ here;
+          same = at_inexact c m s _ _ (s.at + n) long x (omega (arith, w.begun)) ∙ here;
         }))
 
 -- a step that was taken
@@ -192,19 +192,19 @@ module _ {c : ℕ} {m : Bool} {ds : List ℕ} {s : Walk} (w : Walking c m ds s) 
   ended : onward c m whole s ≡ measured (passes c m ds)
   ended = ap (λ (f : Framed). onward c m f s) (sym (frame_end (length ds) ds s.at h)) ∙ w.same
 
-  at-late : (k i o w : ℕ) → 0 < k → Refused (Layout k) ≡ told none (since k none) i o w
-  at-late zero i o w z = impossible (omega arith)
-  at-late (suc k) i o w z = refl
+  at_late : (k i o w : ℕ) → 0 < k → Refused (Layout k) ≡ told none (since k none) i o w
+  at_late zero i o w z = impossible (omega arith)
+  at_late (suc k) i o w z = refl
 
   pub late_told : 0 < s.late → {p : ℕ} → p ≡ s.late → Refused (Layout p) ≡ measured (passes c m ds)
-  unfolding onward firstPass secondPass
+  unfolding onward first_pass second_pass
   late_told z q = ap (λ (k : ℕ). Refused (Layout k)) q ∙ go ∙ ended
     where
       go : Refused (Layout s.late) ≡ onward c m whole s
-      go = at-late s.late _ _ _ z
+      go = at_late s.late _ _ _ z
 
   pub fine_told : s.late ≡ 0 → {i o v : ℕ} → i ≡ s.instructions → o ≡ s.operands → v ≡ s.words → Fine i o v ≡ measured (passes c m ds)
-  unfolding onward firstPass secondPass readings all_parts parts_rows parts_words
+  unfolding onward first_pass second_pass readings all_parts parts_rows parts_words
   fine_told z {i} {o} {v} a b d = go ∙ ended
     where
       go : Fine i o v ≡ onward c m whole s

@@ -3,7 +3,7 @@ use Rattle.format.specs.Basis.{ℕ, zero, suc, ◌+◌, ◌*◌, ◌<◌, ◌≤
 use Rattle.format.specs.declared.Refusal.{Refusal}
 use Rattle.format.specs.declared.Refusal.TheVariants.{Layout}
 use Rattle.format.specs.Framing.{Framed, frame}
-use Rattle.format.specs.Refusals.{Outcome, refused, accepted, unless, firstPass, secondPass, readings}
+use Rattle.format.specs.Refusals.{Outcome, refused, accepted, unless, first_pass, second_pass, readings}
 use Rattle.format.specs.Rows.{parts_rows, parts_words, all_parts}
 use Rattle.stream.specs.declared.Measured.{Measured}
 use Rattle.stream.specs.declared.Measured.TheVariants.{Fine, Refused}
@@ -13,7 +13,7 @@ use Rattle.stream.specs.declared.Step.TheVariants.{On, Off}
 
 -- both passes over a chunk's dwords, under a ceiling, in model 5.1 or not
 unfoldable pub passes : ℕ → Bool → List ℕ → Outcome
-passes c m ds = let f = frame (length ds) (drop 2 ds) in unless (firstPass c m 2 f) (unless (secondPass c m 2 f) (accepted 0 (readings c m f)))
+passes c m ds = let f = frame (length ds) (drop 2 ds) in unless (first_pass c m 2 f) (unless (second_pass c m 2 f) (accepted 0 (readings c m f)))
 
 abbrev pub measured : Outcome → Measured
 measured (refused r) = Refused r
@@ -33,7 +33,7 @@ since (suc k) b = some (Layout (suc k))
 -- what is told of the rest of a stream, after a walk so far
 unfoldable pub onward : ℕ → Bool → Framed → Walk → Measured
 onward c m f s =
-    told (firstPass c m s.at f) (since s.late (secondPass c m s.at f)) (s.instructions + length (readings c m f)) (s.operands + parts_rows (all_parts (readings c m f)))
+    told (first_pass c m s.at f) (since s.late (second_pass c m s.at f)) (s.instructions + length (readings c m f)) (s.operands + parts_rows (all_parts (readings c m f)))
     (s.words + length (parts_words (all_parts (readings c m f))))
 
 -- the walk past an instruction that is not exact, up to a place: it goes on, and keeps the first place of 14

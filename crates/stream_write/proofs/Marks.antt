@@ -12,10 +12,10 @@ use borrow.Rule.Slice.PartMut.{put_mid}
 use Rattle.format.specs.declared.Refusal.{Refusal}
 use Rattle.format.specs.declared.Refusal.TheVariants.{OperandCount, Layout}
 use Rattle.format.specs.Dwords.{dwords_of}
-use Rattle.format.specs.Framing.{length_of, Framed, whole, zeroLength, pastEnd, instruction, frame}
+use Rattle.format.specs.Framing.{length_of, Framed, whole, zero_length, past_end, instruction, frame}
 use Rattle.format.specs.Instructions.{Instruction, Reading, ok, miscounted, inexact, read}
 use Rattle.format.specs.Instructions as ins
-use Rattle.format.specs.Refusals.{either, kept, firstPass, secondPass, readings}
+use Rattle.format.specs.Refusals.{either, kept, first_pass, second_pass, readings}
 use Rattle.format.specs.Rows.{parts_rows, parts_words, parts_table, parts, instruction_row, instruction_rows, all_parts}
 use Rattle.format.proofs.Dwords.{impossible}
 use Rattle.format.proofs.Instructions.{kept_ok, read_restores}
@@ -33,26 +33,26 @@ module _ (c : ℕ) (m : Bool) where
   record Taken (at : ℕ) (i : List ℕ) (f : Framed) : Type 0 where
     one : Instruction
     is : read c m i ≡ ok one
-    first : firstPass c m (at + length i) f ≡ none
-    second : secondPass c m (at + length i) f ≡ none
+    first : first_pass c m (at + length i) f ≡ none
+    second : second_pass c m (at + length i) f ≡ none
     same : readings c m (instruction i f) ≡ one ∷ readings c m f
 
-  taken : (at : ℕ) (i : List ℕ) (f : Framed) → firstPass c m at (instruction i f) ≡ none → secondPass c m at (instruction i f) ≡ none → Taken at i f
-  unfolding firstPass secondPass readings
+  taken : (at : ℕ) (i : List ℕ) (f : Framed) → first_pass c m at (instruction i f) ≡ none → second_pass c m at (instruction i f) ≡ none → Taken at i f
+  unfolding first_pass second_pass readings
   taken at i f p q = go (read c m i) refl p q
     where
-      go : (x : Reading) → read c m i ≡ x → either x (firstPass c m (at + length i) f) (some (OperandCount (4 * at))) (firstPass c m (at + length i) f) ≡ none →
-          either x (secondPass c m (at + length i) f) (secondPass c m (at + length i) f) (some (Layout (4 * at))) ≡ none → Taken at i f
+      go : (x : Reading) → read c m i ≡ x → either x (first_pass c m (at + length i) f) (some (OperandCount (4 * at))) (first_pass c m (at + length i) f) ≡ none →
+          either x (second_pass c m (at + length i) f) (second_pass c m (at + length i) f) (some (Layout (4 * at))) ≡ none → Taken at i f
       go (ok j) e p q = record { one = j; is = e; first = p; second = q; same = ap (λ (x : Reading). kept x (readings c m f)) e }
       go miscounted e p q = impossible (cc)
       go inexact e p q = impossible (cc)
 
-  not_zero : {A : Type 0} (at : ℕ) → firstPass c m at zeroLength ≡ none → A
-  unfolding firstPass
+  not_zero : {A : Type 0} (at : ℕ) → first_pass c m at zero_length ≡ none → A
+  unfolding first_pass
   not_zero at e = impossible (cc)
 
-  not_past : {A : Type 0} (at : ℕ) → firstPass c m at pastEnd ≡ none → A
-  unfolding firstPass
+  not_past : {A : Type 0} (at : ℕ) → first_pass c m at past_end ≡ none → A
+  unfolding first_pass
   not_past at e = impossible (cc)
 
   module _ (ds : List ℕ) where
@@ -62,24 +62,24 @@ module _ (c : ℕ) (m : Bool) where
       pub inside : at + n ≤ length ds
       pub one : Instruction
       pub is : read c m (slice at (at + n) ds) ≡ ok one
-      pub first : firstPass c m (at + n) (stream c m ds (at + n)) ≡ none
-      pub second : secondPass c m (at + n) (stream c m ds (at + n)) ≡ none
+      pub first : first_pass c m (at + n) (stream c m ds (at + n)) ≡ none
+      pub second : second_pass c m (at + n) (stream c m ds (at + n)) ≡ none
       pub same : rest c m ds at ≡ one ∷ rest c m ds (at + n)
 
-    module _ (at n : ℕ) (h : at < length ds) (e : n ≡ length_of (get_or ds at 0) (drop (suc at) ds)) (p : firstPass c m at (stream c m ds at) ≡ none) (q : secondPass c m at (stream c m ds at) ≡ none) where
+    module _ (at n : ℕ) (h : at < length ds) (e : n ≡ length_of (get_or ds at 0) (drop (suc at) ds)) (p : first_pass c m at (stream c m ds at) ≡ none) (q : second_pass c m at (stream c m ds at) ≡ none) where
       here : 0 < n → n ≤ length ds - at → Ahead at n
       here z k =
           let i : List ℕ = slice at (at + n) ds in
           let f : stream c m ds at ≡ instruction i (stream c m ds (at + n)) = frame_next ds at n h e z k in
-          let t : Taken at i (stream c m ds (at + n)) = taken at i _ (ap (λ (x : Framed). firstPass c m at x) (sym f) ∙ p) (ap (λ (x : Framed). secondPass c m at x) (sym f) ∙ q) in
+          let t : Taken at i (stream c m ds (at + n)) = taken at i _ (ap (λ (x : Framed). first_pass c m at x) (sym f) ∙ p) (ap (λ (x : Framed). second_pass c m at x) (sym f) ∙ q) in
           let l : at + length i ≡ at + n = omega (arith, length-slice at (at + n) ds (omega arith)) in
           record {
             some = z;
             inside = omega arith;
             one = t.one;
             is = t.is;
-            first = ap (λ (x : ℕ). firstPass c m x (stream c m ds (at + n))) (sym l) ∙ t.first;
-            second = ap (λ (x : ℕ). secondPass c m x (stream c m ds (at + n))) (sym l) ∙ t.second;
+            first = ap (λ (x : ℕ). first_pass c m x (stream c m ds (at + n))) (sym l) ∙ t.first;
+            second = ap (λ (x : ℕ). second_pass c m x (stream c m ds (at + n))) (sym l) ∙ t.second;
             same = ap (readings c m) f ∙ t.same;
           }
 
@@ -87,11 +87,11 @@ module _ (c : ℕ) (m : Bool) where
       ahead = go n refl
         where
           fits : 0 < n → (b : Bool) → ltb (length ds - at) n ≡ b → Ahead at n
-          fits z true t = not_past at (ap (λ (x : Framed). firstPass c m at x) (sym (frame_past ds at n h e z (ltb→lt _ _ (subst T (sym t) tt)))) ∙ p)
+          fits z true t = not_past at (ap (λ (x : Framed). first_pass c m at x) (sym (frame_past ds at n h e z (ltb→lt _ _ (subst T (sym t) tt)))) ∙ p)
           fits z false t = here z (nltb→le _ _ (subst (λ (b : Bool). T (not b)) (sym t) tt))
 
           go : (k : ℕ) → n ≡ k → Ahead at n
-          go zero z = not_zero at (ap (λ (x : Framed). firstPass c m at x) (sym (frame_zero ds at n h e z)) ∙ p)
+          go zero z = not_zero at (ap (λ (x : Framed). first_pass c m at x) (sym (frame_zero ds at n h e z)) ∙ p)
           go (suc k) z = fits (omega arith) (ltb (length ds - at) n) refl
 
 -- the sums of a list that begins with an instruction
@@ -115,11 +115,11 @@ module _ {c : ℕ} {m : Bool} {ds : List ℕ} {s : Mark} {is os ws n : ℕ} (w :
   abbrev after : List Instruction
   after = rest c m ds (s.at + n)
 
-  dwords-one : length (ins.dwords a.one) ≡ n
-  dwords-one = ap length (kept_ok (read_restores c m (slice s.at (s.at + n) ds)) a.is) ∙ omega (arith, length-slice s.at (s.at + n) ds a.inside)
+  dwords_one : length (ins.dwords a.one) ≡ n
+  dwords_one = ap length (kept_ok (read_restores c m (slice s.at (s.at + n) ds)) a.is) ∙ omega (arith, length-slice s.at (s.at + n) ds a.inside)
 
   pub one_fits : parts_rows (parts a.one) + length (parts_words (parts a.one)) ≤ n
-  one_fits = omega (arith, instruction_fits a.one, dwords-one)
+  one_fits = omega (arith, instruction_fits a.one, dwords_one)
 
   rows_are : length (rest c m ds s.at) ≡ 1 + length after
   rows_are = ap length a.same ∙ omega arith
@@ -181,17 +181,17 @@ module _ {c : ℕ} {m : Bool} {ds : List ℕ} {s : Mark} {n : ℕ} (is os ws : L
   row_over : Over (s.instructions * 16) (instruction_row at r v a.one) is is'
   row_over = back (s.instructions * 16) is is₁ (instruction_row at r v a.one) 16 (sym (row_length at r v a.one)) st.row_put
 
-  table-over : Over (s.operands * 16) (parts_table r v (parts a.one)) os os'
-  table-over = back (s.operands * 16) os os₁ (parts_table r v (parts a.one)) (16 * parts_rows (parts a.one)) (sym (parts_length r v (parts a.one))) st.put.rows_put
+  table_over : Over (s.operands * 16) (parts_table r v (parts a.one)) os os'
+  table_over = back (s.operands * 16) os os₁ (parts_table r v (parts a.one)) (16 * parts_rows (parts a.one)) (sym (parts_length r v (parts a.one))) st.put.rows_put
 
-  words-over : Over s.words (parts_words (parts a.one)) ws ws'
-  words-over = back s.words ws ws₁ (parts_words (parts a.one)) (length (parts_words (parts a.one))) refl st.put.words_put
+  words_over : Over s.words (parts_words (parts a.one)) ws ws'
+  words_over = back s.words ws ws₁ (parts_words (parts a.one)) (length (parts_words (parts a.one))) refl st.put.words_put
 
   row_room : s.instructions * 16 + length (instruction_row at r v a.one) ≤ length is
   row_room = omega (arith, row_length at r v a.one, w.for_rows, rows_are w a)
 
-  table-room : s.operands * 16 + length (parts_table r v (parts a.one)) ≤ length os
-  table-room = omega (arith, parts_length r v (parts a.one), w.for_operands, operands_are w a)
+  table_room : s.operands * 16 + length (parts_table r v (parts a.one)) ≤ length os
+  table_room = omega (arith, parts_length r v (parts a.one), w.for_operands, operands_are w a)
 
   words_room : s.words + length (parts_words (parts a.one)) ≤ length ws
   words_room = omega (arith, w.for_words, words_are w a)
@@ -199,7 +199,7 @@ module _ {c : ℕ} {m : Bool} {ds : List ℕ} {s : Mark} {n : ℕ} (is os ws : L
   rows_same : instruction_row at r v a.one ++ instruction_rows (4 * t.at) t.operands t.words (rest c m ds t.at) ≡ instruction_rows (4 * s.at) s.operands s.words (rest c m ds s.at)
   rows_same =
       let p : at ≡ 4 * s.at = omega (arith, fa) in
-      let q : 4 * t.at ≡ 4 * s.at + 4 * length (ins.dwords a.one) = omega (arith, ea, dwords-one w a) in
+      let q : 4 * t.at ≡ 4 * s.at + 4 * length (ins.dwords a.one) = omega (arith, ea, dwords_one w a) in
       (λ k. instruction_row (p k) (fr k) (fv k) a.one ++ instruction_rows (q k) (eo k) (ew k) (rest c m ds (ea k))) ∙
       sym (instruction_more (4 * s.at) s.operands s.words a.one (rest c m ds (s.at + n))) ∙ ap (instruction_rows (4 * s.at) s.operands s.words) (sym a.same)
 
@@ -216,13 +216,13 @@ module _ {c : ℕ} {m : Bool} {ds : List ℕ} {s : Mark} {n : ℕ} (is os ws : L
   pub toward : Toward c m ds s is os ws t is' os' ws'
   toward x y z l = record {
     rows_put = over_as is x (s.instructions * 16) (16 * s.instructions) _ _ (omega arith) rows_same (over_more _ (16 * t.instructions) (instruction_row at r v a.one) _ is is' x row_room (omega (arith, ei, row_length at r v a.one)) row_over l.rows_put);
-    operands_put = over_as os y (s.operands * 16) (16 * s.operands) _ _ (omega arith) table_same (over_more _ (16 * t.operands) (parts_table r v (parts a.one)) _ os os' y table-room (omega (arith, eo, parts_length r v (parts a.one))) table-over l.operands_put);
-    words_put = over_as ws z s.words s.words _ _ refl words_same (over_more _ t.words (parts_words (parts a.one)) _ ws ws' z words_room ew words-over l.words_put);
+    operands_put = over_as os y (s.operands * 16) (16 * s.operands) _ _ (omega arith) table_same (over_more _ (16 * t.operands) (parts_table r v (parts a.one)) _ os os' y table_room (omega (arith, eo, parts_length r v (parts a.one))) table_over l.operands_put);
+    words_put = over_as ws z s.words s.words _ _ refl words_same (over_more _ t.words (parts_words (parts a.one)) _ ws ws' z words_room ew words_over l.words_put);
   }
 
   pub same_lengths : (length is' ≡ length is) × (length os' ≡ length os) × (length ws' ≡ length ws)
   same_lengths =
-      (over_length _ (instruction_row at r v a.one) is is' row_room row_over, over_length _ (parts_table r v (parts a.one)) os os' table-room table-over, over_length _ (parts_words (parts a.one)) ws ws' words_room words-over)
+      (over_length _ (instruction_row at r v a.one) is is' row_room row_over, over_length _ (parts_table r v (parts a.one)) os os' table_room table_over, over_length _ (parts_words (parts a.one)) ws ws' words_room words_over)
 
   pub moved : Writing c m ds t (length is') (length os') (length ws')
   moved =

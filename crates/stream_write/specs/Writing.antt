@@ -3,7 +3,7 @@ use Rattle.format.specs.Basis.{ℕ, ◌+◌, ◌*◌, ◌≤◌, ◌≡◌, List
 use Rattle.format.specs.Framing.{Framed, frame}
 use Rattle.format.specs.Instructions.{Instruction}
 use Rattle.format.specs.Rows.{instruction_rows, parts_rows, parts_words, parts_table, all_parts}
-use Rattle.format.specs.Refusals.{firstPass, secondPass, readings}
+use Rattle.format.specs.Refusals.{first_pass, second_pass, readings}
 use Rattle.operand_rows.specs.Writes.{Over}
 use Rattle.stream_write.specs.declared.Mark.{Mark}
 
@@ -26,8 +26,8 @@ module _ (c : ℕ) (m : Bool) (ds : List ℕ) where
     pub few : length ds ≤ 262_144
     pub counted : s.instructions ≤ s.at
     pub fits : s.operands + s.words ≤ s.at
-    pub first : firstPass c m s.at (stream s.at) ≡ none
-    pub second : secondPass c m s.at (stream s.at) ≡ none
+    pub first : first_pass c m s.at (stream s.at) ≡ none
+    pub second : second_pass c m s.at (stream s.at) ≡ none
     pub for_rows : 16 * (s.instructions + length (rest s.at)) ≤ is
     pub for_operands : 16 * (s.operands + parts_rows (all_parts (rest s.at))) ≤ os
     pub for_words : s.words + length (parts_words (all_parts (rest s.at))) ≤ ws

@@ -69,14 +69,14 @@ module _ (t : ℕ) where
   part : t % 4096 / 2 ^ 4 ≡ t / 2 ^ 4 % 2 ^ 8
   part = field t 8 4
 
-  form-part : form u ≡ form t
-  form-part =
+  form_part : form u ≡ form t
+  form_part =
       let a : t % 4096 / 2 ^ 2 ≡ t / 2 ^ 2 % 2 ^ 10 = field t 10 2 in
       form_low u t (omega arith) (omega (arith, a))
 
-  selection-part : selection u ≡ selection t
+  selection_part : selection u ≡ selection t
   unfolding selection
-  selection-part = rw form-part (go (form t))
+  selection_part = rw form_part (go (form t))
     where
       go : (f : ℕ) → bits_from 4 (chosen f) u ≡ bits_from 4 (chosen f) t
       go zero = omega (arith, part)
@@ -86,14 +86,14 @@ module _ (t : ℕ) where
       go (suc (suc (suc (suc zero)))) = omega (arith, part)
       go (suc (suc (suc (suc (suc f))))) = omega (arith, part)
 
-  made-part : made u ≡ made t
-  made-part = λ i. low (form-part i) + selection-part i * 16
+  made_part : made u ≡ made t
+  made_part = λ i. low (form_part i) + selection_part i * 16
 
   computed : eqb (bit_and u (allowed_bits (u % 16))) u ≡ eqb u (made t)
-  computed = ap (λ (p : Bool × Bool). p.0) (below _ _ 4096 lows u (omega arith)) ∙ ap (eqb u) made-part
+  computed = ap (λ (p : Bool × Bool). p.0) (below _ _ 4096 lows u (omega arith)) ∙ ap (eqb u) made_part
 
   small : made t < 4096
-  small = rw made-part at (ltb-true (made u) 4096 (ap (λ (p : Bool × Bool). p.1) (below _ _ 4096 lows u (omega arith))))
+  small = rw made_part at (ltb-true (made u) 4096 (ap (λ (p : Bool × Bool). p.1) (below _ _ 4096 lows u (omega arith))))
 
   -- the dword is the sum of its fields where its low bits and its representations are
   whole : t < 2 ^ 32 → (m k d r q b : ℕ) → t ≡ u + k * 4096 + d * 1048576 + q * 4194304 + b * 2147483648 → m < 4096 → r < 512 → q < 512 → (eqb u m && eqb q r) ≡ eqb t (m + k * 4096 + d * 1048576 + r * 4194304 + b * 2147483648)

@@ -89,17 +89,17 @@ module _ (t : ℕ) (h : t < 2 ^ 32) where
   looked : (m : ℕ) → m ≡ stray_bits (t % 16) → m ≡ 1023 * 2 ^ 22 + low u
   looked m e = e ∙ ap stray_bits (sym lowest) ∙ eqb-true _ _ (ap (λ (p : Bool × Bool). p.1) (below _ _ 4096 lows u (omega arith)))
 
-  masked-higher : (m : ℕ) → m < 4096 → bit_and t (4095 * 2 ^ 20 + m) ≡ t / 2 ^ 20 * 2 ^ 20 + bit_and u m
-  masked-higher m l =
+  masked_higher : (m : ℕ) → m < 4096 → bit_and t (4095 * 2 ^ 20 + m) ≡ t / 2 ^ 20 * 2 ^ 20 + bit_and u m
+  masked_higher m l =
       let e : t ≡ t / 2 ^ 20 * 2 ^ 20 + t % 2 ^ 20 = omega arith in
       let k : bit_and (t / 2 ^ 20) (2 ^ 12 - 1) ≡ t / 2 ^ 20 = and_mask (t / 2 ^ 20) 12 ∙ omega arith in
       ap (λ x. bit_and x (4095 * 2 ^ 20 + m)) e ∙ and_block 20 (t / 2 ^ 20) 4095 (t % 2 ^ 20) m (omega arith) (omega arith) ∙ rw (k, under (t / 2 ^ 20 * 256) (t % 2 ^ 20) (omega arith) m l)
 
-  looked-higher : (m : ℕ) → m ≡ stray_bits (t % 16) → m + 0x300000 ≡ 4095 * 2 ^ 20 + low u
-  looked-higher m e = omega (arith, looked m e)
+  looked_higher : (m : ℕ) → m ≡ stray_bits (t % 16) → m + 0x300000 ≡ 4095 * 2 ^ 20 + low u
+  looked_higher m e = omega (arith, looked m e)
 
-  exact-low : t < 2 ^ 22 → eqb (bit_and u (low u)) 0 ≡ exact_dword t
-  exact-low l =
+  exact_low : t < 2 ^ 22 → eqb (bit_and u (low u)) 0 ≡ exact_dword t
+  exact_low l =
       let z : t / 4194304 % 512 ≡ 0 = omega arith in
       let p = exact_by_parts t h (allowed_bits (u % 16)) 0 refl (sym (reprs_none t l)) in
       ap (λ (p : Bool × Bool). p.0) (below _ _ 4096 lows u (omega arith)) ∙ sym (and-true _) ∙ ap (λ b. eqb (bit_and u (allowed_bits (u % 16))) u && b) (sym (eq-eqb _ _ z)) ∙ p
@@ -111,17 +111,17 @@ module _ (t : ℕ) (h : t < 2 ^ 32) where
       go true k =
           let l = ltb-true t 0x400000 k in
           let z : t / 2 ^ 22 * 2 ^ 22 + bit_and u (low u) ≡ bit_and u (low u) = omega arith in
-          rw z (exact-low l)
+          rw z (exact_low l)
       go false k = let l = ltb-false t 0x400000 k in ne_eqb (t / 2 ^ 22 * 2 ^ 22 + bit_and u (low u)) 0 (λ z. omega arith)
 
   -- with one index
   pub short_is : (m : ℕ) → m ≡ stray_bits (t % 16) → eqb (bit_and t (m + 0x300000)) 0x100000 ≡ (eqb (t / 0x100000) 1 && exact_dword t)
-  short_is m e = ap (λ x. eqb (bit_and t x) 0x100000) (looked-higher m e) ∙ ap (λ x. eqb x 0x100000) (masked-higher (low u) (omega arith)) ∙ go (eqb (t / 0x100000) 1) refl
+  short_is m e = ap (λ x. eqb (bit_and t x) 0x100000) (looked_higher m e) ∙ ap (λ x. eqb x 0x100000) (masked_higher (low u) (omega arith)) ∙ go (eqb (t / 0x100000) 1) refl
     where
       go : (b : Bool) → eqb (t / 0x100000) 1 ≡ b → eqb (t / 2 ^ 20 * 2 ^ 20 + bit_and u (low u)) 0x100000 ≡ (b && exact_dword t)
       go true k =
           let l = eqb-true (t / 0x100000) 1 k in
-          alone (t / 2 ^ 20 * 2 ^ 20) (bit_and u (low u)) (omega arith) ∙ exact-low (omega arith)
+          alone (t / 2 ^ 20 * 2 ^ 20) (bit_and u (low u)) (omega arith) ∙ exact_low (omega arith)
       go false k =
           let l = eqb-false (t / 0x100000) 1 k in
           let s : bit_and u (low u) < 4096 = omega (arith, and_le_l u (low u)) in
