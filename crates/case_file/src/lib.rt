@@ -5,6 +5,9 @@ ghost use Rattle.std.specs.Prelude.{◌≡◌, length};
 ghost use Rattle.case_file.specs.Heads as h;
 
 use format::{Answer, Refusal};
+use std::fs::File;
+use std::io;
+use std::io::{ErrorKind, Read};
 
 // The dwords of a head. Bytes of the chunk past those given are 0. BEFORE is what the first entry of the instruction pool holds before the
 // call. NUMBER is the refusal's, or 0 for an accepted chunk.
@@ -66,6 +69,13 @@ pub fn no_entries() -> [u32; 4096]
     [0; 4096]
 }
 
+// Room for the entries of a pool or the questions of a case, all zero.
+pub fn large_buffer() -> [u8; 65536]
+    ensures { 65536 ≡ length result }
+{
+    [0; 65536]
+}
+
 // The dword at a place, or 0 past the end.
 pub fn at(part: &[u8], k: usize) -> u32
     ensures { result ≡ h.dword_at part.now k }
@@ -76,12 +86,25 @@ pub fn at(part: &[u8], k: usize) -> u32
     0
 }
 
-// Reads n bytes to the front of a buffer, and tells whether there were as many.
-pub fn read_front(fd: i32, buffer: &mut [u8], n: usize) -> bool {
-    if n <= buffer.len() {
-        return io::read_full(fd, &mut buffer[0..n]) == n;
+// Fills a buffer, and tells whether there were as many bytes left.
+pub fn read_all(file: &mut File, buffer: &mut [u8]) -> io::Result<bool> {
+    match file.read_exact(buffer) {
+        Ok(()) => Ok(true),
+        Err(e) => {
+            if e.kind() == ErrorKind::UnexpectedEof {
+                return Ok(false);
+            }
+            Err(e)
+        }
     }
-    false
+}
+
+// Reads n bytes to the front of a buffer, and tells whether there were as many.
+pub fn read_front(file: &mut File, buffer: &mut [u8], n: usize) -> io::Result<bool> {
+    if n <= buffer.len() {
+        return read_all(file, &mut buffer[0..n]);
+    }
+    Ok(false)
 }
 
 // A pool of a case with this number: refusals 11 to 14 clear all that is lent.
@@ -182,18 +205,18 @@ fn lend(
 // Reads the chunk of a case into room that is all zero, fills the pools and decodes the chunk. Where the file has no such chunk, the answer
 // is one that no chunk gives.
 pub fn decoded(
-    fd: i32,
+    file: &mut File,
     head: &[u8],
     chunk: &mut [u8],
     instructions: &mut [u32],
     operands: &mut [u32],
     words: &mut [u32],
-) -> Answer {
-    if read_front(fd, chunk, wide(at(head, GIVEN))) {
+) -> io::Result<Answer> {
+    if read_front(file, chunk, wide(at(head, GIVEN)))? {
         fill_all(head, instructions, operands, words);
-        return lend(head, chunk, instructions, operands, words);
+        return Ok(lend(head, chunk, instructions, operands, words));
     }
-    Answer::Refused(Refusal::OutputShort)
+    Ok(Answer::Refused(Refusal::OutputShort))
 }
 
 // Whether two parts hold the same words.
@@ -222,16 +245,19 @@ pub fn same_part(part: &[u32], words: &[u32], start: usize, n: usize) -> bool {
 }
 
 // How many cases the file says it has; 1 if it doesn't, which is then wrong.
-pub fn number_of_cases(fd: i32) -> u64 {
+pub fn number_of_cases(file: &mut File) -> io::Result<u64> {
     let mut number = [0u8; 4];
-    if io::read_full(fd, &mut number) != 4 {
-        return 1;
+    if read_all(file, &mut number)? {
+        return Ok(at(&number, 0) as u64);
     }
-    at(&number, 0) as u64
+    Ok(1)
 }
 
 // 1 if something is left of the file, else 0.
-pub fn left_over(fd: i32) -> u64 {
+pub fn left_over(file: &mut File) -> io::Result<u64> {
     let mut byte = [0u8; 1];
-    io::read_full(fd, &mut byte) as u64
+    if read_all(file, &mut byte)? {
+        return Ok(1);
+    }
+    Ok(0)
 }

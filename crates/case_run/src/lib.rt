@@ -4,7 +4,9 @@ use case_file::{
     INSTRUCTIONS, NUMBER, OPERANDS, Pool, QUESTIONS, VERSION_OR_PLACE, WORDS, at, wide,
 };
 use format::{Answer, Shown};
-use libc::STDOUT_FILENO;
+use std::fs;
+use std::fs::File;
+use std::io;
 
 // The dwords of a question: the row and the count that are asked for; the words expected, what is shown (0 nothing, 1 a count, 2 a factor)
 // and its bits, and the offsets with 8 added.
@@ -55,14 +57,14 @@ fn same_pool(pool: &[u32], entries: &[u8], p: Pool) -> bool {
 }
 
 // Reads the next expected entries, and tells whether a pool begins with them and is as it should be past them.
-fn next_same(fd: i32, pool: &[u32], p: Pool) -> bool {
-    let mut entries = io::large_buffer();
+fn next_same(file: &mut File, pool: &[u32], p: Pool) -> io::Result<bool> {
+    let mut entries = case_file::large_buffer();
     if p.used <= pool.len() {
-        if case_file::read_front(fd, &mut entries, p.used * 4) {
-            return same_pool(pool, &entries, p);
+        if case_file::read_front(file, &mut entries, p.used * 4)? {
+            return Ok(same_pool(pool, &entries, p));
         }
     }
-    false
+    Ok(false)
 }
 
 // Whether the answer is the one that a case expects. A refusal has no counts.
@@ -140,99 +142,107 @@ fn answered(q: &[u8], instructions: &[u32], words: &[u32]) -> bool {
 }
 
 // Reads the next question, and tells whether it is answered as it expects.
-fn next_answered(fd: i32, instructions: &[u32], words: &[u32]) -> bool {
+fn next_answered(file: &mut File, instructions: &[u32], words: &[u32]) -> io::Result<bool> {
     let mut question = [0u8; 36];
-    if io::read_full(fd, &mut question) != 36 {
-        return false;
+    if case_file::read_all(file, &mut question)? {
+        return Ok(answered(&question, instructions, words));
     }
-    answered(&question, instructions, words)
+    Ok(false)
 }
 
 // Whether the next n questions are all answered as they expect.
-fn all_answered(fd: i32, n: u32, instructions: &[u32], words: &[u32]) -> bool {
-    let mut left = n;
+fn all_answered(
+    file: &mut File,
+    n: u32,
+    instructions: &[u32],
+    words: &[u32],
+) -> io::Result<bool> {
     let mut right = true;
-    while left > 0 {
-        left -= 1;
-        if !next_answered(fd, instructions, words) {
+    for _ in 0..n {
+        if !next_answered(file, instructions, words)? {
             right = false;
         }
     }
-    right
+    Ok(right)
 }
 
 // Asks the questions of a case; the calls are lent as much of the pools as the reader was.
-fn asked(fd: i32, questions: u32, instructions: &[u32], a: usize, words: &[u32], c: usize) -> bool {
+fn asked(
+    file: &mut File,
+    questions: u32,
+    instructions: &[u32],
+    a: usize,
+    words: &[u32],
+    c: usize,
+) -> io::Result<bool> {
     if a <= instructions.len() {
         if c <= words.len() {
-            return all_answered(fd, questions, &instructions[0..a], &words[0..c]);
+            return all_answered(file, questions, &instructions[0..a], &words[0..c]);
         }
     }
-    false
+    Ok(false)
 }
 
 // Whether the answer and the three pools are those that a case expects, and its questions are answered as they expect.
 fn compared(
-    fd: i32,
+    file: &mut File,
     head: &[u8],
     answer: Answer,
     instructions: &[u32],
     operands: &[u32],
     words: &[u32],
-) -> bool {
+) -> io::Result<bool> {
     let i = case_file::instructions_of(head);
     let w = case_file::words_of(head);
     let answers = same_answer(answer, head);
-    let same_instructions = next_same(fd, instructions, i);
-    let same_operands = next_same(fd, operands, case_file::operands_of(head));
-    let same_words = next_same(fd, words, w);
-    let questions = asked(fd, at(head, QUESTIONS), instructions, i.lent, words, w.lent);
-    answers && same_instructions && same_operands && same_words && questions
+    let same_instructions = next_same(file, instructions, i)?;
+    let same_operands = next_same(file, operands, case_file::operands_of(head))?;
+    let same_words = next_same(file, words, w)?;
+    let questions = asked(file, at(head, QUESTIONS), instructions, i.lent, words, w.lent)?;
+    Ok(answers && same_instructions && same_operands && same_words && questions)
 }
 
 // Runs a case in room that is all zero, and tells whether it is right.
 fn is_right(
-    fd: i32,
+    file: &mut File,
     head: &[u8],
     chunk: &mut [u8],
     instructions: &mut [u32],
     operands: &mut [u32],
     words: &mut [u32],
-) -> bool {
-    let answer = case_file::decoded(fd, head, chunk, instructions, operands, words);
-    compared(fd, head, answer, instructions, operands, words)
+) -> io::Result<bool> {
+    let answer = case_file::decoded(file, head, chunk, instructions, operands, words)?;
+    compared(file, head, answer, instructions, operands, words)
 }
 
 // Runs the next case: 0 no more, 1 right, 2 wrong.
-fn one(fd: i32) -> u8 {
+fn one(file: &mut File) -> io::Result<u8> {
     let mut head = [0u8; 56];
-    if io::read_full(fd, &mut head) != 56 {
-        return 0;
+    if !case_file::read_all(file, &mut head)? {
+        return Ok(0);
     }
     let mut chunk = case_file::no_bytes();
     let mut instructions = case_file::no_entries();
     let mut operands = case_file::no_entries();
     let mut words = case_file::no_entries();
     if is_right(
-        fd,
+        file,
         &head,
         &mut chunk,
         &mut instructions,
         &mut operands,
         &mut words,
-    ) {
-        return 1;
+    )? {
+        return Ok(1);
     }
-    2
+    Ok(2)
 }
 
 // How many of the next so many cases are right; one that cannot be read is not, nor are those after it.
-fn all(fd: i32, cases: u64) -> u64 {
-    let mut left = cases;
+fn all(file: &mut File, cases: u64) -> io::Result<u64> {
     let mut right: u64 = 0;
-    while left > 0 {
-        left -= 1;
-        let said = one(fd);
+    for _ in 0..cases {
+        let said = one(file)?;
         if said == 0 {
             break;
         }
@@ -240,30 +250,20 @@ fn all(fd: i32, cases: u64) -> u64 {
             right = std::num::wrapping_add_u64(right, 1);
         }
     }
-    right
+    Ok(right)
 }
 
 // Prints how many cases are right, and how many wrong; what is left of the file is wrong too.
-fn report(fd: i32) {
-    let cases = case_file::number_of_cases(fd);
-    let right = all(fd, cases);
+fn report(rt: &impl Print, file: &mut File) -> io::Result<()> {
+    let cases = case_file::number_of_cases(file)?;
+    let right = all(file, cases)?;
     let wrong = std::num::wrapping_sub_u64(cases, right);
-    io::print_decimal(STDOUT_FILENO, right);
-    io::write_all(STDOUT_FILENO, b" right, ");
-    io::print_decimal(
-        STDOUT_FILENO,
-        std::num::wrapping_add_u64(wrong, case_file::left_over(fd)),
-    );
-    io::write_all(STDOUT_FILENO, b" wrong\n");
+    let all_wrong = std::num::wrapping_add_u64(wrong, case_file::left_over(file)?);
+    println!(rt; "{right} right, {all_wrong} wrong")
 }
 
 // Runs the cases of the file, which stands in the program's data/.
-pub fn run() {
-    let fd = os::open_read(b"cases");
-    if fd < 0 {
-        os::fail(b"cases");
-        return;
-    }
-    report(fd);
-    libc::close(fd);
+pub fn run(rt: &HostRuntime) -> io::Result<()> {
+    let mut file = fs::open(rt, "cases")?;
+    report(rt, &mut file)
 }

@@ -1,4 +1,6 @@
 // Runs the cases that were worked out from document 01, which cases.txt lists.
-fn main() {
-    case_run::run();
+use std::io;
+
+fn main(rt: HostRuntime) -> io::Result<()> {
+    case_run::run(&rt)
 }

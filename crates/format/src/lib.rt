@@ -1,7 +1,7 @@
 // The cases of document 01's answers. The definitions, in specs/, give each case its number and its values.
 
 // Why a chunk, or rows, are refused. A place is the byte offset of an instruction.
-#[derive(Drop)]
+#[derive(Clone, Copy, Drop)]
 pub enum Refusal {
     Edition,
     FourCc,

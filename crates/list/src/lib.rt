@@ -1,8 +1,9 @@
 // The listing of a chunk that comes on standard input.
-ghost use Rattle.std.specs.Prelude.{◌+◌, ◌*◌, ◌≤◌, length};
+ghost use Rattle.std.specs.Prelude.{◌+◌, ◌*◌, ◌≤◌, IfOk, length};
 
 use format::{Answer, Refusal};
-use libc::{STDIN_FILENO, STDOUT_FILENO};
+use std::io;
+use std::io::Read;
 
 // The letters SHEX, as a dword.
 const SHEX: u32 = 0x5845_4853;
@@ -10,73 +11,81 @@ const SHEX: u32 = 0x5845_4853;
 // The edition that knows every code.
 const NEWEST: u32 = 3;
 
-// Prints a number and what stands behind it, a space or a line's end.
-fn print_number(x: u32, behind: &[u8]) {
-    io::print_decimal(STDOUT_FILENO, x as u64);
-    io::write_all(STDOUT_FILENO, behind);
-}
-
 // Prints a line with words 0 to 3 of the row at a place: byte offset, dwords, code and kind.
-fn print_row(rows: &[u32], at: usize)
+fn print_row(rt: &impl Print, rows: &[u32], at: usize) -> io::Result<()>
     requires { at + 16 ≤ length rows.now }
 {
-    print_number(rows[at], b" ");
-    print_number(rows[at + 1], b" ");
-    print_number(rows[at + 2], b" ");
-    print_number(rows[at + 3], b"\n");
+    println!(rt; "{} {} {} {}", rows[at], rows[at + 1], rows[at + 2], rows[at + 3])
 }
 
 // Prints so many rows, from the first on.
-fn print_rows(rows: &[u32], count: usize)
+fn print_rows(rt: &impl Print, rows: &[u32], count: usize) -> io::Result<()>
     requires { 16 * count ≤ length rows.now }
 {
-    let mut i: usize = 0;
-    while i < count {
-        print_row(rows, 16 * i);
-        i += 1;
+    for i in 0..count {
+        print_row(rt, rows, 16 * i)?;
     }
+    Ok(())
 }
 
 // Prints what was accepted: its rows and their count.
-fn print_accepted(rows: &[u32], count: u32)
+fn print_accepted(rt: &impl Print, rows: &[u32], count: u32) -> io::Result<()>
     requires { 16 * count ≤ length rows.now }
 {
-    print_rows(rows, count as usize);
-    io::write_all(STDOUT_FILENO, b"accepted ");
-    print_number(count, b"\n");
+    print_rows(rt, rows, count as usize)?;
+    println!(rt; "accepted {count}")
 }
 
 // Prints a refusal's number and place.
-fn print_refused(r: Refusal) {
-    io::write_all(STDOUT_FILENO, b"refused ");
-    print_number(answers::number(r), b" ");
-    print_number(answers::place(r), b"\n");
+fn print_refused(rt: &impl Print, r: Refusal) -> io::Result<()> {
+    println!(rt; "refused {} {}", answers::number(r), answers::place(r))
 }
 
 // Reads a chunk into pools and prints what came of it. What decode ensures of an accepted chunk keeps the rows that are printed
 // inside their pool.
-fn print_chunk(chunk: &[u8], instructions: &mut [u32], operands: &mut [u32], words: &mut [u32]) {
+fn print_chunk(
+    rt: &impl Print,
+    chunk: &[u8],
+    instructions: &mut [u32],
+    operands: &mut [u32],
+    words: &mut [u32],
+) -> io::Result<()> {
     match decode::decode(chunk, SHEX, NEWEST, instructions, operands, words) {
         Answer::Accepted {
             version: _,
             instructions: count,
             operands: _,
             words: _,
-        } => print_accepted(instructions, count),
-        Answer::Refused(r) => print_refused(r),
+        } => print_accepted(rt, instructions, count),
+        Answer::Refused(r) => print_refused(rt, r),
     }
 }
 
+// Reads to the front of a buffer until it is full or the input ends, and gives how many bytes there were.
+fn read_full(reader: &mut impl Read, buffer: &mut [u8]) -> io::Result<usize>
+    ensures { IfOk result (λ n. n ≤ length buffer.new) }
+{
+    let mut size = 0;
+    while size < buffer.len() {
+        let n = reader.read(&mut buffer[size..])?;
+        if n == 0 {
+            break;
+        }
+        size += n;
+    }
+    Ok(size)
+}
+
 // Lists the chunk on standard input. The pools have room for 1,000 dwords past the header, all that 4,008 bytes hold.
-pub fn run() {
+pub fn run(rt: &(impl Print + Input)) -> io::Result<()> {
     let mut input = [0u8; 4009];
-    let size = io::read_full(STDIN_FILENO, &mut input);
+    let mut reader = rt.reader();
+    let size = read_full(&mut reader, &mut input)?;
     if 4008 < size {
-        io::write_all(STDOUT_FILENO, b"too long\n");
-        return;
+        return println!(rt; "too long");
     }
     let mut instructions = [0u32; 16000];
     let mut operands = [0u32; 16000];
     let mut words = [0u32; 1000];
-    print_chunk(&input[..size], &mut instructions, &mut operands, &mut words);
+    print_chunk(rt, &input[..size], &mut instructions, &mut operands, &mut words)
 }

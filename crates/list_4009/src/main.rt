@@ -1,4 +1,6 @@
 // Lists the bytes of list_4008 and one more, which is too long.
-fn main() {
-    list::run();
+use std::io;
+
+fn main(rt: HostRuntime) -> io::Result<()> {
+    list::run(&rt)
 }

@@ -1,4 +1,6 @@
 // Lists no bytes at all.
-fn main() {
-    list::run();
+use std::io;
+
+fn main(rt: HostRuntime) -> io::Result<()> {
+    list::run(&rt)
 }

@@ -1,4 +1,6 @@
 // Lists the viewer's own shader.
-fn main() {
-    list::run();
+use std::io;
+
+fn main(rt: HostRuntime) -> io::Result<()> {
+    list::run(&rt)
 }

@@ -5,7 +5,9 @@ ghost use Rattle.std.specs.Prelude.{◌≡◌, length};
 
 use case_file::{EDITION, INSTRUCTIONS, OPERANDS, QUESTIONS, SIZE, WORDS, at, wide};
 use format::{Answer, Encoded};
-use libc::STDOUT_FILENO;
+use std::fs;
+use std::fs::File;
+use std::io;
 
 // The letters SHEX, as a dword.
 const SHEX: u32 = 0x5845_4853;
@@ -19,7 +21,7 @@ const FIRST_WORD: usize = 8192;
 const END: usize = 12288;
 
 // What is encoded beside the rows and words.
-#[derive(Drop)]
+#[derive(Clone, Copy, Drop)]
 struct Told {
     edition: u32,
     version: u32,
@@ -29,7 +31,7 @@ struct Told {
 }
 
 // What encoding says in numbers: a refusal's, or 0 and a size.
-#[derive(Drop)]
+#[derive(Clone, Copy, Drop)]
 struct Said {
     number: u32,
     size: usize,
@@ -46,7 +48,7 @@ enum Outcome {
 }
 
 // How many there are of each outcome.
-#[derive(Drop)]
+#[derive(Clone, Copy, Drop)]
 struct Totals {
     restored: u64,
     lost: u64,
@@ -406,41 +408,48 @@ fn run_answer(
 }
 
 // Reads past what a case expects, and tells whether it was there.
-fn skipped(fd: i32, head: &[u8]) -> bool {
+fn skipped(file: &mut File, head: &[u8]) -> io::Result<bool> {
     let rows = wide(at(head, INSTRUCTIONS)) + wide(at(head, OPERANDS));
     let entries = rows * 16 + wide(at(head, WORDS));
     let questions = wide(at(head, QUESTIONS));
-    let mut buffer = io::large_buffer();
-    case_file::read_front(fd, &mut buffer, entries * 4 + questions * 36)
+    let mut buffer = case_file::large_buffer();
+    case_file::read_front(file, &mut buffer, entries * 4 + questions * 36)
 }
 
 // Runs the next case. One that cannot be read counts as lost.
-fn next(fd: i32, t: Totals) -> Totals {
+fn next(file: &mut File, t: Totals) -> io::Result<Totals> {
     let mut head = [0u8; 56];
-    if io::read_full(fd, &mut head) != 56 {
-        return counted(t, Outcome::Lost);
+    if !case_file::read_all(file, &mut head)? {
+        return Ok(counted(t, Outcome::Lost));
     }
     let mut chunk = case_file::no_bytes();
     let mut instructions = case_file::no_entries();
     let mut operands = case_file::no_entries();
     let mut words = case_file::no_entries();
     let a = case_file::decoded(
-        fd,
+        file,
         &head,
         &mut chunk,
         &mut instructions,
         &mut operands,
         &mut words,
-    );
-    if skipped(fd, &head) {
-        return run_answer(&head, a, &instructions, &operands, &words, &chunk, t);
+    )?;
+    if skipped(file, &head)? {
+        return Ok(run_answer(
+            &head,
+            a,
+            &instructions,
+            &operands,
+            &words,
+            &chunk,
+            t,
+        ));
     }
-    counted(t, Outcome::Lost)
+    Ok(counted(t, Outcome::Lost))
 }
 
 // Runs the next so many cases.
-fn all(fd: i32, cases: u64) -> Totals {
-    let mut left = cases;
+fn all(file: &mut File, cases: u64) -> io::Result<Totals> {
     let mut t = Totals {
         restored: 0,
         lost: 0,
@@ -448,11 +457,10 @@ fn all(fd: i32, cases: u64) -> Totals {
         read_back: 0,
         wrong: 0,
     };
-    while left > 0 {
-        left -= 1;
-        t = next(fd, t);
+    for _ in 0..cases {
+        t = next(file, t)?;
     }
-    t
+    Ok(t)
 }
 
 // Lays an operand row that says its three indices are operands, each of them this row, and so many rows and dwords in its tree.
@@ -519,40 +527,28 @@ fn hostile_refused() -> bool {
     a && b
 }
 
-// Prints a number and what stands behind it.
-fn print_number(x: u64, behind: &[u8]) {
-    io::print_decimal(STDOUT_FILENO, x);
-    io::write_all(STDOUT_FILENO, behind);
-}
-
 // Prints how many accepted cases are restored and how many are not, and what came of the changes.
-fn print_totals(t: Totals) {
-    print_number(t.restored, b" restored, ");
-    print_number(t.lost, b" wrong\n");
+fn print_totals(rt: &impl Print, t: Totals) -> io::Result<()> {
+    println!(rt; "{} restored, {} wrong", t.restored, t.lost)?;
     let right = std::num::wrapping_add_u64(t.refused, t.read_back);
-    print_number(std::num::wrapping_add_u64(right, t.wrong), b" changed: ");
-    print_number(t.refused, b" refused, ");
-    print_number(t.read_back, b" read back, ");
-    print_number(t.wrong, b" wrong\n");
+    let changed = std::num::wrapping_add_u64(right, t.wrong);
+    println!(rt; "{changed} changed: {} refused, {} read back, {} wrong", t.refused, t.read_back, t.wrong)
 }
 
 // Runs the cases and the hostile rows; what is left of the file is lost too.
-fn report(fd: i32) {
-    let mut t = all(fd, case_file::number_of_cases(fd));
-    t.lost = std::num::wrapping_add_u64(t.lost, case_file::left_over(fd));
-    print_totals(t);
+fn report(rt: &impl Print, file: &mut File) -> io::Result<()> {
+    let cases = case_file::number_of_cases(file)?;
+    let mut t = all(file, cases)?;
+    t.lost = std::num::wrapping_add_u64(t.lost, case_file::left_over(file)?);
+    print_totals(rt, t)?;
     if hostile_refused() {
-        io::write_all(STDOUT_FILENO, b"hostile rows refused\n");
+        return println!(rt; "hostile rows refused");
     }
+    Ok(())
 }
 
 // Runs the cases of the file, which stands in data/.
-fn main() {
-    let fd = os::open_read(b"cases");
-    if fd < 0 {
-        os::fail(b"cases");
-        return;
-    }
-    report(fd);
-    libc::close(fd);
+fn main(rt: HostRuntime) -> io::Result<()> {
+    let mut file = fs::open(&rt, "cases")?;
+    report(&rt, &mut file)
 }

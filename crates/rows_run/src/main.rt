@@ -1,17 +1,17 @@
 // Asks for the words, what is shown and the offsets of some rows, and compares.
 use format::{Offsets, Shown};
-use libc::STDOUT_FILENO;
+use std::io;
 
 // row number and count; words 2, 3, 8, 9, 14 and 15 of row 1: code, kind, extension bits, nibbles, where its words start, how many
-#[derive(Drop)]
+#[derive(Clone, Copy, Drop)]
 struct Asked(u32, u32, u32, u32, u32, u32, u32, u32);
 
 // how many words, the first; what is shown: 0 nothing, 1 a count, 2 a factor, 3 a factor that is a NaN; u, v and w
-#[derive(Drop)]
+#[derive(Clone, Copy, Drop)]
 struct Wanted(usize, u32, u8, u32, f32, i8, i8, i8);
 
 // a row that is asked for, and what is wanted
-#[derive(Drop)]
+#[derive(Clone, Copy, Drop)]
 struct Case(Asked, Wanted);
 
 const CASES: [Case; 16] = [
@@ -135,10 +135,7 @@ fn count_right() -> u64 {
 }
 
 // Prints how many cases are right, and how many wrong.
-fn main() {
+fn main(rt: HostRuntime) -> io::Result<()> {
     let n = count_right();
-    io::print_decimal(STDOUT_FILENO, n);
-    io::write_all(STDOUT_FILENO, b" right, ");
-    io::print_decimal(STDOUT_FILENO, std::num::wrapping_sub_u64(16, n));
-    io::write_all(STDOUT_FILENO, b" wrong\n");
+    println!(rt; "{n} right, {} wrong", std::num::wrapping_sub_u64(16, n))
 }

@@ -17,8 +17,7 @@ pub struct Reading {
 }
 
 // Reads a chunk of a FourCC at an edition, into three lent pools.
-#[unsafe(no_mangle)]
-pub extern "C" fn shex_decode(
+pub fn shex_decode(
     chunk: &[u8],
     four: u32,
     edition: u32,
@@ -62,8 +61,7 @@ pub struct Writing {
 }
 
 // Encodes a version token, so many rows and words at an edition into the output.
-#[unsafe(no_mangle)]
-pub extern "C" fn shex_encode(
+pub fn shex_encode(
     edition: u32,
     version: u32,
     instructions: &[u32],
@@ -122,8 +120,7 @@ fn span_of(words: &[u32], a: u32, n: u32) -> Span
 
 // Tells where a row's words are; an export can't return the part itself. The span is empty and at 0 for a row number at or past the count,
 // a row outside its pool or a span outside the word pool.
-#[unsafe(no_mangle)]
-pub extern "C" fn shex_words(instructions: &[u32], words: &[u32], row: u32, count: u32) -> Span
+pub fn shex_words(instructions: &[u32], words: &[u32], row: u32, count: u32) -> Span
     ensures { result ≡ lies row count instructions.now words.now }
 {
     if row < count {
@@ -147,8 +144,7 @@ pub struct Showing {
 }
 
 // Tells what a row shows.
-#[unsafe(no_mangle)]
-pub extern "C" fn shex_shows(instructions: &[u32], words: &[u32], row: u32, count: u32) -> Showing
+pub fn shex_shows(instructions: &[u32], words: &[u32], row: u32, count: u32) -> Showing
     ensures { result ≡ showing row count instructions.now words.now }
 {
     let part = rows::words_of(instructions, words, row, count);
@@ -175,8 +171,7 @@ pub struct Sides {
 }
 
 // Gives u, v and w of a row.
-#[unsafe(no_mangle)]
-pub extern "C" fn shex_offsets(instructions: &[u32], row: u32, count: u32) -> Sides
+pub fn shex_offsets(instructions: &[u32], row: u32, count: u32) -> Sides
     ensures { result ≡ sides row count instructions.now }
 {
     let o = rows::offsets(instructions, row, count);
