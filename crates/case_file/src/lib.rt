@@ -40,7 +40,7 @@ pub const WORDS: usize = 12;
 pub const QUESTIONS: usize = 13;
 
 // A pool: how many entries are lent, used afterwards and cleared by a refusal, and what the first one holds before.
-#[derive(Drop)]
+#[derive(Clone, Copy, Drop)]
 pub struct Pool {
     pub lent: usize,
     pub used: usize,

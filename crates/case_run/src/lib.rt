@@ -4,9 +4,8 @@ use case_file::{
     INSTRUCTIONS, NUMBER, OPERANDS, Pool, QUESTIONS, VERSION_OR_PLACE, WORDS, at, wide,
 };
 use format::{Answer, Shown};
-use std::fs;
 use std::fs::File;
-use std::io;
+use std::{fs, io};
 
 // The dwords of a question: the row and the count that are asked for; the words expected, what is shown (0 nothing, 1 a count, 2 a factor)
 // and its bits, and the offsets with 8 added.
@@ -151,12 +150,7 @@ fn next_answered(file: &mut File, instructions: &[u32], words: &[u32]) -> io::Re
 }
 
 // Whether the next n questions are all answered as they expect.
-fn all_answered(
-    file: &mut File,
-    n: u32,
-    instructions: &[u32],
-    words: &[u32],
-) -> io::Result<bool> {
+fn all_answered(file: &mut File, n: u32, instructions: &[u32], words: &[u32]) -> io::Result<bool> {
     let mut right = true;
     for _ in 0..n {
         if !next_answered(file, instructions, words)? {
@@ -198,7 +192,14 @@ fn compared(
     let same_instructions = next_same(file, instructions, i)?;
     let same_operands = next_same(file, operands, case_file::operands_of(head))?;
     let same_words = next_same(file, words, w)?;
-    let questions = asked(file, at(head, QUESTIONS), instructions, i.lent, words, w.lent)?;
+    let questions = asked(
+        file,
+        at(head, QUESTIONS),
+        instructions,
+        i.lent,
+        words,
+        w.lent,
+    )?;
     Ok(answers && same_instructions && same_operands && same_words && questions)
 }
 

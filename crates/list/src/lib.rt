@@ -15,7 +15,13 @@ const NEWEST: u32 = 3;
 fn print_row(rt: &impl Print, rows: &[u32], at: usize) -> io::Result<()>
     requires { at + 16 ≤ length rows.now }
 {
-    println!(rt; "{} {} {} {}", rows[at], rows[at + 1], rows[at + 2], rows[at + 3])
+    println!(rt;
+        "{} {} {} {}",
+        rows[at],
+        rows[at + 1],
+        rows[at + 2],
+        rows[at + 3]
+    )
 }
 
 // Prints so many rows, from the first on.
@@ -87,5 +93,11 @@ pub fn run(rt: &(impl Print + Input)) -> io::Result<()> {
     let mut instructions = [0u32; 16000];
     let mut operands = [0u32; 16000];
     let mut words = [0u32; 1000];
-    print_chunk(rt, &input[..size], &mut instructions, &mut operands, &mut words)
+    print_chunk(
+        rt,
+        &input[..size],
+        &mut instructions,
+        &mut operands,
+        &mut words,
+    )
 }

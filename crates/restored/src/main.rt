@@ -5,9 +5,8 @@ ghost use Rattle.std.specs.Prelude.{◌≡◌, length};
 
 use case_file::{EDITION, INSTRUCTIONS, OPERANDS, QUESTIONS, SIZE, WORDS, at, wide};
 use format::{Answer, Encoded};
-use std::fs;
 use std::fs::File;
-use std::io;
+use std::{fs, io};
 
 // The letters SHEX, as a dword.
 const SHEX: u32 = 0x5845_4853;
@@ -435,15 +434,7 @@ fn next(file: &mut File, t: Totals) -> io::Result<Totals> {
         &mut words,
     )?;
     if skipped(file, &head)? {
-        return Ok(run_answer(
-            &head,
-            a,
-            &instructions,
-            &operands,
-            &words,
-            &chunk,
-            t,
-        ));
+        return Ok(run_answer(&head, a, &instructions, &operands, &words, &chunk, t));
     }
     Ok(counted(t, Outcome::Lost))
 }
@@ -532,7 +523,10 @@ fn print_totals(rt: &impl Print, t: Totals) -> io::Result<()> {
     println!(rt; "{} restored, {} wrong", t.restored, t.lost)?;
     let right = std::num::wrapping_add_u64(t.refused, t.read_back);
     let changed = std::num::wrapping_add_u64(right, t.wrong);
-    println!(rt; "{changed} changed: {} refused, {} read back, {} wrong", t.refused, t.read_back, t.wrong)
+    println!(rt;
+        "{changed} changed: {} refused, {} read back, {} wrong",
+        t.refused, t.read_back, t.wrong
+    )
 }
 
 // Runs the cases and the hostile rows; what is left of the file is lost too.

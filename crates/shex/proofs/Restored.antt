@@ -60,9 +60,9 @@ module _ (edition v i o w : ℕ) (is os ws out out' : List ℕ) (n : ℕ) (e : E
   abbrev written : (b : List ℕ) × (encode edition q (length out) ≡ encoded b) × (n ≡ length b)
   written = wrote (encode edition q (length out)) n e.answered
 
-  chunk-is : take n out' ≡ written.0
+  chunk_is : take n out' ≡ written.0
   unfolding output_after
-  chunk-is =
+  chunk_is =
       let b : List ℕ = written.0 in
       let z : out' ≡ b ++ drop (length b) out = e.output ∙ ap (λ (x : Encoding). output_after x out) written.1 in
       ap (take n) z ∙ take_at b (drop (length b) out) n (sym written.2)
@@ -79,7 +79,7 @@ module _ (edition v i o w : ℕ) (is os ws out out' : List ℕ) (n : ℕ) (e : E
 
     reads : decode edition SHEX (take n out') p ≡ accepted v l
     reads =
-        let z : read_chunk edition SHEX (take n out') ≡ accepted v l = ap (read_chunk edition SHEX) chunk-is ∙ read_SHEX edition (given g).four written.0 (given g).read in
+        let z : read_chunk edition SHEX (take n out') ≡ accepted v l = ap (read_chunk edition SHEX) chunk_is ∙ read_SHEX edition (given g).four written.0 (given g).read in
         decode_SHEX edition (take n out') p z r
 
     holds : held (reading (accepted v l) p) ≡ held q

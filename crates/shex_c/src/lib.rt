@@ -34,7 +34,17 @@ pub extern "C" fn shex_encode(
 ) -> Writing
     ensures { Wrote edition version instruction_count operand_count word_count instructions.now operands.now words.now output.old result output.new }
 {
-    shex::shex_encode(edition, version, instructions, instruction_count, operands, operand_count, words, word_count, output)
+    shex::shex_encode(
+        edition,
+        version,
+        instructions,
+        instruction_count,
+        operands,
+        operand_count,
+        words,
+        word_count,
+        output,
+    )
 }
 
 // Tells where a row's words are; an export can't return the part itself. The span is empty and at 0 for a row number at or past the count,
@@ -61,4 +71,3 @@ pub extern "C" fn shex_offsets(instructions: &[u32], row: u32, count: u32) -> Si
 {
     shex::shex_offsets(instructions, row, count)
 }
-
