@@ -1,5 +1,5 @@
-/* The reader, the encoder and the calls on rows of `shex`, for C. The archive is target/staticlib/libshex.a (`rt staticlib shex`); it links
-   into x86-64 programs. Each function is proved to meet its contract in crates/shex/src/lib.rt; numbers, places, rows and words are document
+/* The reader, the encoder and the calls on rows of `shex`, for C. The archive is target/staticlib/libshex.a (bindings/run); it links
+   into x86-64 programs. Each function is proved to meet its contract in crates/shex_c/src/lib.rt; numbers, places, rows and words are document
    01's. Nothing is allocated and nothing is kept between calls, so calls on different buffers may run at the same time.
 
    A buffer is a pointer and its length in entries. The pointer is never null and is aligned for its entries, also where the length is 0.

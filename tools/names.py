@@ -26,6 +26,8 @@ OWN = {
     "getD-fits": "get_or_fits",
     # Lemmas that would have their definition's name get _lem.
     "bytes-of": "bytes_of_lem",
+    # One whose statement begins on its second line.
+    "pools-after": "pools_after_lem",
 }
 # The same, where the name has another meaning in other files.
 HERE = {

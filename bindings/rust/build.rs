@@ -10,7 +10,7 @@ fn main() {
     };
     let archive = Path::new(&folder).join("libshex.a");
     if !archive.exists() {
-        panic!("{} is missing: run `rt staticlib shex`, or set SHEX_LIB_DIR", archive.display());
+        panic!("{} is missing: run bindings/run, or set SHEX_LIB_DIR", archive.display());
     }
     println!("cargo:rerun-if-changed={}", archive.display());
     println!("cargo:rustc-link-search=native={folder}");

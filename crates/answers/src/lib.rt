@@ -1,4 +1,6 @@
 // An answer in numbers: the number and the place that document 01 gives a refusal.
+#![tactic(auto)]
+
 ghost use Rattle.std.specs.Prelude.{◌≡◌};
 ghost use Rattle.format.specs.Refusals as h;
 

@@ -1,6 +1,8 @@
 // The file of cases that programs run, data/cases. That of crates/cases is written by its make from cases.txt, that of crates/replay by the
 // oracle. It is dwords, the lowest byte first, and begins with the number of cases. A case is a head of 14 dwords, the chunk's bytes up to
 // a whole dword, the entries of the three pools that an accepted chunk uses, and the questions, of 9 dwords each.
+#![tactic(auto)]
+
 ghost use Rattle.std.specs.Prelude.{◌≡◌, length};
 ghost use Rattle.case_file.specs.Heads as h;
 

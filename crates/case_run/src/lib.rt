@@ -1,5 +1,7 @@
 // Runs the cases of a program's data/cases: each chunk is read, and the whole answer and the whole pools are compared; then the questions
 // are asked. The first lines of case_file say what the file is.
+#![tactic(auto)]
+
 use case_file::{
     INSTRUCTIONS, NUMBER, OPERANDS, Pool, QUESTIONS, VERSION_OR_PLACE, WORDS, at, wide,
 };

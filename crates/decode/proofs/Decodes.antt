@@ -1,10 +1,10 @@
 -- A chunk, header and all.
 use Prim.Native.Nat.{ℕ}
-use mathlib.Core.Path.{◌≡◌, refl, sym, ap, ◌∙◌, subst}
+use mathlib.Core.Path.{◌≡◌, refl, sym, subst}
 use mathlib.Core.List.{List, [], ◌∷◌}
-use mathlib.Core.Option.{Option, none, some}
-use mathlib.Core.Bool.{Bool, true, false, cond}
-use lib.ListN.{length, get_or, drop}
+use mathlib.Core.Option.{none, some}
+use mathlib.Core.Bool.{Bool, true, false}
+use lib.ListN.{length, get_or}
 use lib.Dec.{ltb}
 use Rattle.format.specs.declared.Refusal.{Refusal}
 use Rattle.format.specs.declared.Refusal.TheVariants.{Room}
@@ -12,10 +12,9 @@ use Rattle.format.specs.declared.Answer.{Answer}
 use Rattle.format.specs.declared.Answer.TheVariants.{Refused}
 use Rattle.format.specs.Dwords.{dwords_of}
 use Rattle.format.specs.Framing.{ceiling}
-use Rattle.format.specs.Instructions.{Instruction}
-use Rattle.format.specs.Refusals.{Outcome, refused, number, first_of, header_tests, header, room, unless, body, decode, answer, after, pools_after}
+use Rattle.format.specs.Refusals.{Outcome, refused, number, first_of, header, body, decode, answer, after, pools_after}
 use Rattle.format.proofs.Dwords.{impossible}
-use Rattle.format.proofs.Refusals.{Passing, passing}
+use Rattle.format.proofs.Refusals.{passing}
 use Rattle.header.specs.Header.{has_room}
 use Rattle.header.proofs.Room.{room_of}
 use Rattle.decode.specs.Decode.{lent, Entered, Ends, Decoded}

@@ -1,21 +1,20 @@
 -- What comes of a chunk past its header: the answer, and what the pools hold.
-use Prim.Native.Nat.{ℕ, zero, suc, ◌+◌, ◌*◌, ◌-◌, ◌/◌, ◌≤◌, ◌<◌}
+use Prim.Native.Nat.{ℕ, ◌+◌, ◌*◌, ◌-◌, ◌/◌, ◌≤◌}
 use mathlib.Core.Path.{◌≡◌, refl, sym, ap, ◌∙◌, subst}
-use mathlib.Core.List.{List, [], ◌∷◌, ◌++◌}
+use mathlib.Core.List.{List, ◌++◌}
 use mathlib.Core.Option.{Option, none, some}
-use mathlib.Core.Bool.{Bool, true, false, not, ◌||◌, cond}
-use lib.ListN.{length, get_or, take, drop, replicate, length-drop}
+use mathlib.Core.Bool.{Bool, true, false, not, ◌||◌}
+use lib.ListN.{length, get_or, drop, replicate, length-drop}
 use lib.Dec.{T, ltb, nltb→le}
 use native.Mathlib.Omega.{arith}
 use Rattle.format.specs.declared.Refusal.{Refusal}
 use Rattle.format.specs.declared.Refusal.TheVariants.{OperandCount, Layout}
-use Rattle.format.specs.declared.Answer.{Answer}
 use Rattle.format.specs.declared.Answer.TheVariants.{Accepted, Refused}
 use Rattle.format.specs.Dwords.{dwords_of}
 use Rattle.format.specs.Framing.{Framed, whole, zero_length, past_end, instruction, frame}
 use Rattle.format.specs.Instructions.{Instruction, Reading, ok, miscounted, inexact, read}
 use Rattle.format.specs.Refusals.{Outcome, refused, accepted, number, either, unless, first_pass, second_pass, readings, is_model51, body, answer, after}
-use Rattle.format.specs.Rows.{parts_rows, parts_words, parts_table, instruction_rows, all_parts}
+use Rattle.format.specs.Rows.{parts_words, parts_table, instruction_rows, all_parts}
 use Rattle.format.proofs.Dwords.{impossible, length_dwords}
 use Rattle.format.proofs.Refusals.{unless_accepted, accepted_fields, body_accepted, reads_dwords}
 use Rattle.format.proofs.Rows.{all_fit}
@@ -25,7 +24,6 @@ use Rattle.stream.specs.declared.Measured.TheVariants.{Fine, Refused as Stopped}
 use Rattle.stream.specs.Stream.{passes, measured}
 use Rattle.stream.proofs.Outcomes.{refused_body, fine_body}
 use Rattle.operand_rows.proofs.Lists.{over_front}
-use Rattle.stream_write.specs.declared.Mark.{Mark}
 use Rattle.stream_write.specs.Writing.{start, stream, rest, Writing, Left}
 use Rattle.decode.specs.Decode.{Entered, Ends}
 

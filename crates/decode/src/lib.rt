@@ -1,4 +1,6 @@
 // The reader: a chunk is checked, measured and then written into three lent pools.
+#![tactic(auto)]
+
 ghost use Rattle.std.specs.Prelude.{◌≡◌, length};
 ghost use Rattle.format.specs.Dwords.{dwords_of};
 ghost use Rattle.format.specs.Refusals as h;

@@ -1,5 +1,5 @@
 -- What encoding answers, by the chunk that gives the rows and words.
-use Prim.Native.Nat.{ℕ, ◌+◌, ◌*◌, ◌-◌, ◌/◌, ◌^◌, ◌≤◌, ◌<◌}
+use Prim.Native.Nat.{ℕ, ◌+◌, ◌*◌, ◌-◌, ◌/◌, ◌≤◌, ◌<◌}
 use mathlib.Core.Path.{◌≡◌, refl, sym, ap, ◌∙◌}
 use mathlib.Core.List.{List, ◌∷◌, ◌++◌}
 use mathlib.Core.Option.{Option, none as nothing, some as just}
@@ -18,7 +18,7 @@ use Rattle.format.specs.Framing.{ceiling}
 use Rattle.format.specs.Instructions.{Instruction, all_dwords}
 use Rattle.format.specs.Refusals.{Rows, SHEX, first_of, header_tests, is_model51}
 use Rattle.format.specs.Encoder.{past_pool, held, chunk_of, chunk_giving, into, Encoding, unencoded, encoded, encode, encode_answer, output_after}
-use Rattle.format.proofs.Dwords.{impossible, both, length_bytes}
+use Rattle.format.proofs.Dwords.{impossible, length_bytes}
 use Rattle.format.proofs.Encoder.{Counts, counts}
 use Rattle.output.specs.Puts.{put}
 use Rattle.reading.specs.declared.Read.{Read}

@@ -1,4 +1,6 @@
 // The encoder: rows, counts and words that are the reading of a chunk are written as that chunk.
+#![tactic(auto)]
+
 ghost use Rattle.std.specs.Prelude.{◌≡◌, ℕ, ◌+◌, ◌-◌, ◌*◌, ◌/◌, ◌^◌, ◌<◌, ◌≤◌, length, take, drop};
 ghost use Rattle.encode.specs.Encode as e;
 ghost use Rattle.encode.specs.Emits as w;

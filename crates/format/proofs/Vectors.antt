@@ -210,14 +210,14 @@ abbrev pub sevens : ℕ → List ℕ
 sevens n = replicate n 7
 
 -- untouched after 1 and 6, after 10 for each of two pools; zero after 11, 12, 13, 14; rows, then the old entries after success
-pub pools-after :
+pub pools_after_lem :
     map (λ (ds : List ℕ). afterwards 3 17 1 ds)
     ((0x150 ∷ 3 ∷ 0x0100003E ∷ []) ∷ (0x50 ∷ 3 ∷ 0x0000003A ∷ []) ∷ (0x50 ∷ 3 ∷ 0x0200003E ∷ []) ∷ (0x50 ∷ 3 ∷ 0x01000036 ∷ []) ∷ (0x50 ∷ 3 ∷ 0x0100403E ∷ []) ∷ (0x50 ∷ 3 ∷ 0x0100003E ∷ []) ∷ []) ++
     afterwards 4 17 1 (0x50 ∷ 3 ∷ 0x0100003E ∷ []) ∷ afterwards 3 15 1 (0x50 ∷ 3 ∷ 0x0000003A ∷ []) ∷ afterwards 3 17 0 (0x50 ∷ 3 ∷ 0x0000003A ∷ []) ∷ [] ≡
     (sevens 17, sevens 16, sevens 1) ∷ (zeros 17, zeros 16, zeros 1) ∷ (zeros 17, zeros 16, zeros 1) ∷ (zeros 17, zeros 16, zeros 1) ∷ (zeros 17, zeros 16, zeros 1) ∷ (8 ∷ 1 ∷ 62 ∷ 1 ∷ zeros 12 ++ 7 ∷ [], sevens 16, sevens 1) ∷
     (sevens 17, sevens 16, sevens 1) ∷ (sevens 15, sevens 16, sevens 1) ∷ (sevens 17, sevens 16, []) ∷ []
 unfolding afterwards
-pools-after = refl
+pools_after_lem = refl
 
 -- what the output holds afterwards, and the length that is answered, for a program of no rows
 abbrev pub no_rows : Rows

@@ -1,4 +1,5 @@
 // The cases of document 01's answers. The definitions, in specs/, give each case its number and its values.
+#![tactic(auto)]
 
 // Why a chunk, or rows, are refused. A place is the byte offset of an instruction.
 #[derive(Clone, Copy, Drop)]

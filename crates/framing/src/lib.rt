@@ -1,4 +1,6 @@
 // Which tokens have their length in the dword after them.
+#![tactic(auto)]
+
 ghost use Rattle.std.specs.Prelude.{◌≡◌, [], ◌∷◌};
 ghost use Rattle.format.specs.Counts.{within};
 ghost use Rattle.format.specs.Framing as f;

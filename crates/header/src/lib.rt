@@ -1,4 +1,6 @@
 // What is checked of a chunk before its stream is read, and how long each of its instructions is.
+#![tactic(auto)]
+
 ghost use Rattle.std.specs.Prelude.{suc, ◌-◌, ◌/◌, ◌%◌, ◌^◌, ◌<◌, ◌≡◌, [], ◌∷◌, ◌&&◌, length, get_or, drop, replicate};
 ghost use Rattle.format.specs.Counts.{within};
 ghost use Rattle.format.specs.Dwords.{dword_of, dwords_of, bits};

@@ -1,4 +1,6 @@
 // Measures an instruction: refused with 13 or 14, or the rows and words that it needs.
+#![tactic(auto)]
+
 ghost use Rattle.std.specs.Prelude.{◌≡◌, [], ◌∷◌, Bool, true, not, ◌&&◌, ℕ, ◌/◌, ◌<◌, ◌≤◌, length, get_or, drop, eqb};
 ghost use Rattle.std.proofs.Math.Option.{none, some};
 ghost use Rattle.format.specs.Dwords.{dwords_of};

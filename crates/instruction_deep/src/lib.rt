@@ -1,4 +1,6 @@
 // Walks the row of an instruction, the rows of its operands and its words, which anybody may have written: the general way.
+#![tactic(auto)]
+
 ghost use Rattle.std.specs.Prelude.{◌≡◌, [], suc, ◌+◌, ◌-◌, ◌*◌, ◌^◌, ◌<◌, ◌≤◌, true, cond, ◌&&◌, ◌||◌, length, get_or, drop, replicate, eqb, ltb};
 ghost use Rattle.format.specs.Framing as fr;
 ghost use Rattle.format.specs.Counts as ct;

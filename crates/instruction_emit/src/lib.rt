@@ -1,4 +1,6 @@
 // Writes the dwords of an instruction whose row, operand rows and words were confirmed.
+#![tactic(auto)]
+
 ghost use Rattle.std.specs.Prelude.{◌≡◌, cond, [], ◌∷◌, ℕ, ◌+◌, ◌*◌, ◌^◌, ◌<◌, ◌≤◌, length, take, drop, ltb};
 ghost use Rattle.format.specs.Dwords.{bytes_of};
 ghost use Rattle.format.specs.Encoder as e;

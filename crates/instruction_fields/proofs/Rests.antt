@@ -13,7 +13,7 @@ use Rattle.layouts.specs.Shapes.{listed, tailed}
 use Rattle.layouts.specs.declared.Shape.{Shape}
 use Rattle.format.specs.Dwords.{some}
 use Rattle.format.specs.Instructions.{read_item}
-use Rattle.format.specs.Declarations.{Item, d, small, s, tail, list}
+use Rattle.format.specs.Declarations.{Item, d, small, s, tail}
 use Rattle.format.proofs.Dwords.{impossible}
 use Rattle.instruction_fields.specs.declared.Place.{Place}
 use Rattle.instruction_fields.specs.declared.Place.TheVariants.{At, Off}

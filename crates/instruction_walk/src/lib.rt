@@ -1,5 +1,7 @@
 // Walks the row of an instruction, the rows of its operands and its words, which anybody may have written. Most rows are
 // usual and have a short way; the others go the general way.
+#![tactic(auto)]
+
 ghost use Rattle.std.specs.Prelude.{◌≡◌, ◌+◌, ◌-◌, ◌*◌, ◌/◌, ◌%◌, ◌^◌, ◌<◌, ◌≤◌, true, length, get_or, take, drop};
 ghost use Rattle.layouts.specs.Shapes.{Sound};
 ghost use Rattle.instruction_fields.specs.Fields.{Declared};

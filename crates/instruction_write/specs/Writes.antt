@@ -8,7 +8,7 @@ use Rattle.format.specs.Counts.{operand_count, of_type, type_bits, rising}
 use Rattle.format.specs.Declarations.{Item, Layout, o}
 use Rattle.format.specs.Operands as op
 use Rattle.format.specs.Operands.{Tree}
-use Rattle.format.specs.Instructions.{Instruction, Reading, ok, read_items, read, fields_of, extensions}
+use Rattle.format.specs.Instructions.{Instruction, Reading, ok, read_items, fields_of, extensions}
 use Rattle.format.specs.Rows.{parts_rows, parts_words, parts_table, parts, instruction_row}
 use Rattle.layouts.specs.declared.Shape.{Shape}
 use Rattle.layouts.specs.Shapes.{Sound, Laid, meant, items_of}

@@ -1,4 +1,6 @@
 // Writes an instruction that was accepted: its row, the rows of its operands and its words.
+#![tactic(auto)]
+
 ghost use Rattle.std.specs.Prelude.{◌≡◌, true, false, cond, [], ◌++◌, ◌<◌, ◌≤◌, length, get_or, drop, ltb};
 ghost use Rattle.std.proofs.Math.Option.{none, some};
 ghost use Rattle.std.proofs.Math.Seq.{slice};

@@ -1,4 +1,6 @@
 // The layout of every code: operand counts, the table of declarations, field bits.
+#![tactic(auto)]
+
 ghost use Rattle.std.specs.Prelude.{◌≡◌, ◌<◌, ◌≤◌};
 ghost use Rattle.std.proofs.Math.Option.{none, some};
 ghost use Rattle.format.specs.Counts.{operand_count};

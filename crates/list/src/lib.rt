@@ -1,4 +1,6 @@
 // The listing of a chunk that comes on standard input.
+#![tactic(auto)]
+
 ghost use Rattle.std.specs.Prelude.{◌+◌, ◌*◌, ◌≤◌, IfOk, length};
 
 use format::{Answer, Refusal};

@@ -1,4 +1,6 @@
 // Lists the bytes of list_4008 and one more, which is too long.
+#![tactic(auto)]
+
 use std::io;
 
 fn main(rt: HostRuntime) -> io::Result<()> {

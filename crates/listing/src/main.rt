@@ -1,4 +1,6 @@
 // Lists the viewer's own shader.
+#![tactic(auto)]
+
 use std::io;
 
 fn main(rt: HostRuntime) -> io::Result<()> {

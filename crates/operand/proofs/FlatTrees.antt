@@ -9,7 +9,7 @@ use lib.Seq.{slice, length-slice, drop-drop}
 use lib.Dec.{ltb}
 use borrow.Author.Tests.{le-ltb, lt-ltb}
 use Rattle.format.specs.Dwords.{bits_from, malformed, got, Reader, some}
-use Rattle.format.specs.Operands.{Tree, none, plain, node, dimension, reprs, repr, own, nests, known, read_index, read_indices, operand, dwords, exact, exact_dword, exact_extension}
+use Rattle.format.specs.Operands.{Tree, none, plain, node, dimension, reprs, repr, own, nests, known, read_index, read_indices, dwords, exact, exact_dword, exact_extension}
 use Rattle.format.specs.Rows.{tree_rows, tree_words}
 use Rattle.format.proofs.Dwords.{impossible}
 use Rattle.tokens.proofs.Places.{some_length}

@@ -10,8 +10,8 @@ use lib.ListN.{length, get_or, take, drop, length-append}
 use lib.Seq.{slice, slice_empty, length-slice}
 use lib.Dec.{ltb}
 use borrow.Author.Tests.{ltb-true, ltb-false, eq-eqb, ne_eqb}
-use Rattle.format.specs.Dwords.{follows, Got, malformed, got, Reader, then, give, dword, chain}
-use Rattle.format.specs.Operands.{Tree, none, immediate, immediates, dimension, read_immediates, read_indices, operand, dwords, exact, exact_dword, exact_extension}
+use Rattle.format.specs.Dwords.{follows, Got, malformed, got, Reader, then, give, chain}
+use Rattle.format.specs.Operands.{Tree, immediate, immediates, dimension, read_immediates, read_indices, operand, dwords, exact, exact_dword, exact_extension}
 use Rattle.format.specs.Rows.{tree_rows, tree_words}
 use Rattle.format.proofs.Dwords.{impossible}
 use Rattle.tokens.specs.Chains.{ends}

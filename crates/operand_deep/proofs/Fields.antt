@@ -1,7 +1,7 @@
 -- Laws of a guess and of its row's numbers, one for each way through the code.
 use Prim.Native.Nat.{ℕ, zero, suc, ◌+◌, ◌*◌, ◌/◌, ◌%◌, ◌^◌, ◌<◌, ◌≤◌}
 use mathlib.Core.Path.{◌≡◌, refl, sym, ap, ◌∙◌}
-use mathlib.Core.Bool.{Bool, true, false, not, ◌&&◌, and-false}
+use mathlib.Core.Bool.{Bool, true, false, not, and-false}
 use mathlib.Core.List.{List, [], ◌∷◌}
 use native.Mathlib.Nat.{add-zero}
 use native.Mathlib.Omega.{arith}

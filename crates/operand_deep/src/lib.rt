@@ -1,4 +1,6 @@
 // Walks operand rows and words that anybody may have written, the general way, and tells whether they are those of an operand.
+#![tactic(auto)]
+
 ghost use Rattle.std.specs.Prelude.{◌≡◌, [], ◌∷◌, ◌+◌, ◌-◌, ◌*◌, ◌^◌, ◌<◌, ◌≤◌, length, get_or, take, drop, ltb};
 ghost use Rattle.format.specs.Operands as op;
 ghost use Rattle.format.specs.Rows as rows;

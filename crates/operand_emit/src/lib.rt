@@ -1,4 +1,6 @@
 // Writes the dwords of an operand whose rows and words were confirmed.
+#![tactic(auto)]
+
 ghost use Rattle.std.specs.Prelude.{◌≡◌, List, [], ◌∷◌, ℕ, ◌+◌, ◌-◌, ◌*◌, ◌/◌, ◌%◌, ◌^◌, ◌<◌, ◌≤◌, length, get_or, take, drop};
 ghost use Rattle.format.specs.Operands as op;
 ghost use Rattle.format.specs.Encoder as e;

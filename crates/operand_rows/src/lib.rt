@@ -1,4 +1,6 @@
 // Makes and stores the row of an operand, and copies its words.
+#![tactic(auto)]
+
 ghost use Rattle.std.specs.Prelude.{◌≡◌, true, [], ◌∷◌, ◌++◌, ◌+◌, ◌-◌, ◌<◌, ◌≤◌, ◌^◌, length, get_or, drop, take};
 ghost use Rattle.format.specs.Dwords.{dwords_of};
 ghost use Rattle.format.specs.Operands as op;

@@ -1,4 +1,6 @@
 // Walks operand rows and words that anybody may have written, most of them a short way: whether they are those of an operand.
+#![tactic(auto)]
+
 ghost use Rattle.std.specs.Prelude.{◌≡◌, ◌+◌, ◌-◌, ◌*◌, ◌/◌, ◌^◌, ◌<◌, ◌≤◌, true, [], ◌∷◌, length, drop, ◌≢◌, slice_index};
 ghost use Rattle.format.specs.Encoder as e;
 ghost use Rattle.operand_deep.specs.Confirm as c;

@@ -1,4 +1,6 @@
 // Writes an operand that was measured: its rows and its words.
+#![tactic(auto)]
+
 ghost use Rattle.std.specs.Prelude.{◌≡◌, ◌+◌, ◌-◌, ◌<◌, length, get_or, drop};
 ghost use Rattle.std.proofs.Math.Seq.{slice};
 ghost use Rattle.format.specs.Dwords.{dwords_of};

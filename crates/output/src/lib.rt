@@ -1,4 +1,6 @@
 // Stores dwords and words in an output.
+#![tactic(auto)]
+
 ghost use Rattle.std.specs.Prelude.{◌≡◌, [], ◌∷◌, ◌+◌, ◌-◌, ◌*◌, ◌≤◌, length, take, drop};
 ghost use Rattle.format.specs.Dwords.{bytes_of};
 ghost use Rattle.output.specs.Puts.{put};

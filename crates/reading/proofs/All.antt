@@ -7,7 +7,7 @@ use mathlib.Core.Bool.{Bool, ◌&&◌}
 use native.Mathlib.Omega.{arith}
 use lib.ListN.{length, take, drop, length-append, length-drop, take-append-drop}
 use lib.Seq.{length-take-le, take_at, drop_at}
-use lib.Dec.{eqb, leb, lit<}
+use lib.Dec.{eqb, leb}
 use borrow.Author.Tests.{leb-true, eqb-true, le-leb}
 use Rattle.format.specs.Instructions.{Instruction, dwords, all_dwords}
 use Rattle.format.specs.Rows.{parts_rows, parts_words, parts_table, parts, instruction_row, instruction_rows, all_parts}

@@ -1,4 +1,6 @@
 // Tells whether rows, counts and words are the reading of a chunk at an edition, and of how many dwords.
+#![tactic(auto)]
+
 ghost use Rattle.std.specs.Prelude.{◌≡◌, Bool, not, ℕ, ◌+◌, ◌-◌, ◌*◌, ◌/◌, ◌%◌, ◌^◌, ◌<◌, ◌≤◌, length, take, drop};
 ghost use Rattle.format.specs.Refusals as h;
 ghost use Rattle.format.specs.Encoder as e;

@@ -1,6 +1,8 @@
 // Encodes what the reader makes of the cases of data/cases, which is the file of the crate `cases`. The rows and words of each accepted
 // chunk are encoded into outputs that are exactly long enough, one byte short and one byte longer. Then each entry of its rows and words,
 // its version token and its counts are changed, one at a time: the encoder must refuse, or give bytes that are read to exactly these.
+#![tactic(auto)]
+
 ghost use Rattle.std.specs.Prelude.{◌≡◌, length};
 
 use case_file::{EDITION, INSTRUCTIONS, OPERANDS, QUESTIONS, SIZE, WORDS, at, wide};

@@ -1,4 +1,6 @@
 // What a caller asks of a row: its words, what it shows, its texture offsets. Any numbers may stand in the pools.
+#![tactic(auto)]
+
 ghost use Rattle.std.specs.Prelude.{◌≡◌, ◌+◌, ◌*◌, ◌%◌};
 ghost use Rattle.std.specs.Float.{binary32};
 ghost use Rattle.std.specs.Float.Ieee.{of_bits};

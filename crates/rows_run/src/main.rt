@@ -1,4 +1,6 @@
 // Asks for the words, what is shown and the offsets of some rows, and compares.
+#![tactic(auto)]
+
 use format::{Offsets, Shown};
 use std::io;
 

@@ -3,7 +3,7 @@ use Prim.Native.Nat.{ℕ, ◌+◌, ◌*◌, ◌-◌, ◌/◌, ◌%◌, ◌<◌, 
 use mathlib.Core.Path.{◌≡◌, refl, sym, ap, ◌∙◌, subst}
 use mathlib.Core.Bool.{Bool, true, false, cond, ◌&&◌}
 use mathlib.Core.List.{List}
-use lib.ListN.{length, get_or, take, drop, length-drop}
+use lib.ListN.{length, get_or, drop, length-drop}
 use lib.Seq.{length-take-le}
 use lib.IntN.{ℤ, pos, ◌-ℤ◌}
 use lib.Signed.{mag}
@@ -13,7 +13,6 @@ use mir.Val.{to_z, of_z}
 use borrow.Author.Tests.{lt-ltb, le-ltb, le-leb, lt-leb}
 use native.Mathlib.Omega.{arith}
 use Rattle.format.specs.declared.Shown.{Shown}
-use Rattle.format.specs.declared.Shown.TheVariants.{Factor, Count, Nothing}
 use Rattle.format.specs.declared.Offsets.{Offsets}
 use Rattle.format.specs.Dwords.{bits_from}
 use Rattle.format.specs.Calls.{cell, reached, spanned, part_of, part_start, shows, signed, offset, offsets}

@@ -12,11 +12,11 @@ use Rattle.format.specs.declared.Encoded.{Encoded}
 use Rattle.format.specs.declared.Encoded.TheVariants.{Written}
 use Rattle.format.specs.Dwords.{Bytes}
 use Rattle.format.specs.Instructions.{Instruction}
-use Rattle.format.specs.Refusals.{Outcome, accepted, SHEX, header, room, body, read_chunk, decode, answer, pools_after, Pools, Rows, told, reading}
+use Rattle.format.specs.Refusals.{Outcome, accepted, SHEX, header, room, read_chunk, decode, answer, pools_after, Pools, Rows, told, reading}
 use Rattle.format.specs.Encoder.{held, Gives, Encoding, unencoded, encoded, encode, encode_answer, output_after}
 use Rattle.format.proofs.Dwords.{impossible}
 use Rattle.format.proofs.Refusals.{unless_accepted}
-use Rattle.format.proofs.Encoder.{rows_of, given, answer_accepted, held_after, read_SHEX, encoded_gives}
+use Rattle.format.proofs.Encoder.{given, answer_accepted, held_after, read_SHEX, encoded_gives}
 use Rattle.format.proofs.Demands.{accepted_gives, restored}
 use Rattle.decode.specs.Decode.{Decoded}
 use Rattle.decode.specs.Decode as pools

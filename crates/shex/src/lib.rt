@@ -1,4 +1,6 @@
 // What a program in another language calls: the reader, the encoder and what it may ask of a row, their answers in numbers.
+#![tactic(auto)]
+
 ghost use Rattle.std.specs.Prelude.{◌≡◌};
 ghost use Rattle.shex.specs.Numbers.{Read, Wrote, lies, showing, sides, span_at};
 

@@ -1,4 +1,6 @@
 // The static library that a program in another language links: each export calls the function of its name in `shex`, under the same clause.
+#![tactic(auto)]
+
 ghost use Rattle.std.specs.Prelude.{◌≡◌};
 ghost use Rattle.shex.specs.Numbers.{Read, Wrote, lies, showing, sides};
 

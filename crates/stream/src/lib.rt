@@ -1,4 +1,6 @@
 // The reader's first pass over a chunk's stream: refused with 11, 12, 13 or 14, or the rows and words that it needs.
+#![tactic(auto)]
+
 ghost use Rattle.std.specs.Prelude.{◌≡◌, ◌+◌, ◌*◌, ◌%◌, ◌^◌, ◌<◌, ◌≤◌, length, eqb, cond};
 ghost use Rattle.std.proofs.Math.Seq.{slice};
 ghost use Rattle.format.specs.Dwords.{dwords_of};

@@ -1,18 +1,16 @@
 -- The next instruction of an accepted stream, and what writing it leaves.
-use Prim.Native.Nat.{ℕ, zero, suc, ◌+◌, ◌*◌, ◌-◌, ◌^◌, ◌≤◌, ◌<◌}
+use Prim.Native.Nat.{ℕ, zero, suc, ◌+◌, ◌*◌, ◌-◌, ◌≤◌, ◌<◌}
 use mathlib.Core.Path.{◌≡◌, refl, sym, ap, ◌∙◌, subst}
 use mathlib.Core.List.{List, [], ◌∷◌, ◌++◌}
-use mathlib.Core.Option.{Option, none, some}
+use mathlib.Core.Option.{none, some}
 use mathlib.Core.Bool.{Bool, true, false, not}
 use lib.ListN.{length, get_or, take, drop, length-append}
 use lib.Seq.{length-slice, slice}
 use lib.Dec.{T, ltb, ltb→lt, nltb→le}
 use native.Mathlib.Omega.{arith}
 use borrow.Rule.Slice.PartMut.{put_mid}
-use Rattle.format.specs.declared.Refusal.{Refusal}
 use Rattle.format.specs.declared.Refusal.TheVariants.{OperandCount, Layout}
-use Rattle.format.specs.Dwords.{dwords_of}
-use Rattle.format.specs.Framing.{length_of, Framed, whole, zero_length, past_end, instruction, frame}
+use Rattle.format.specs.Framing.{length_of, Framed, zero_length, past_end, instruction}
 use Rattle.format.specs.Instructions.{Instruction, Reading, ok, miscounted, inexact, read}
 use Rattle.format.specs.Instructions as ins
 use Rattle.format.specs.Refusals.{either, kept, first_pass, second_pass, readings}
@@ -20,7 +18,7 @@ use Rattle.format.specs.Rows.{parts_rows, parts_words, parts_table, parts, instr
 use Rattle.format.proofs.Dwords.{impossible}
 use Rattle.format.proofs.Instructions.{kept_ok, read_restores}
 use Rattle.format.proofs.Rows.{row_length, rows_append, words_append, table_append, parts_length, instruction_fits}
-use Rattle.stream.proofs.Frames.{part_dwords, frame_end, frame_zero, frame_past, frame_next}
+use Rattle.stream.proofs.Frames.{frame_end, frame_zero, frame_past, frame_next}
 use Rattle.operand_rows.specs.Writes.{Over}
 use Rattle.operand_rows.proofs.Lists.{back, over_none, over_more, over_length}
 use Rattle.instruction_write.specs.declared.Sizes.{Sizes}

@@ -1,4 +1,6 @@
 // Writes a stream that was accepted into three lent pools, one instruction after the other.
+#![tactic(auto)]
+
 ghost use Rattle.std.specs.Prelude.{◌≡◌, ◌*◌, ◌<◌, ◌^◌, length};
 ghost use Rattle.format.specs.Dwords.{dwords_of};
 ghost use Rattle.stream_write.specs.Writing as d;

@@ -1,3 +1,4 @@
+-- `fill` is safe and ends: it sets each entry once.
 use Rattle.std.proofs.Common.{◌≡◌, ◌-◌, ◌≤◌, length}
 use Rattle.case_file.proofs.fill.Given as goal
 

@@ -1,3 +1,4 @@
+-- `same_words` is safe and ends: it compares each pair of words once.
 use Rattle.std.proofs.Common.{◌≡◌, ◌-◌, ◌≤◌, length}
 use Rattle.case_file.proofs.same_words.Given as goal
 

@@ -1,3 +1,4 @@
+-- `same_float` makes a float of bits only where they are no NaN's.
 use Rattle.std.proofs.Common.{Bool, not, T, sym, subst}
 use Rattle.rows.proofs.Nans.{no_nan}
 use Rattle.case_run.proofs.same_float.Goals as goal

@@ -1,3 +1,4 @@
+-- `same_pool` is safe and ends: it compares each entry once.
 use Rattle.std.proofs.Common.{◌-◌, ◌≤◌, length}
 use Rattle.case_run.proofs.same_pool.Given as goal
 

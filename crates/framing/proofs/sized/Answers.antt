@@ -1,3 +1,4 @@
+-- Below 145 no code has a long form.
 use mathlib.Core.Path.{◌∙◌}
 use Rattle.framing.proofs.Lengths.{sized_low, sized_high}
 use Rattle.framing.proofs.sized.Goals as goal

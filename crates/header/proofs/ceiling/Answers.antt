@@ -4,13 +4,14 @@ use native.Mathlib.Omega.{arith}
 use Rattle.format.specs.Framing.{ceiling}
 use Rattle.header.proofs.ceiling.Goals as goal
 
-past-editions : (e : ℕ) → 4 ≤ e → 0 ≡ ceiling e
+-- no edition past 3 knows a code
+past_editions : (e : ℕ) → 4 ≤ e → 0 ≡ ceiling e
 unfolding ceiling
-past-editions zero h = omega arith
-past-editions (suc zero) h = omega arith
-past-editions (suc (suc zero)) h = omega arith
-past-editions (suc (suc (suc zero))) h = omega arith
-past-editions (suc (suc (suc (suc e)))) h = refl
+past_editions zero h = omega arith
+past_editions (suc zero) h = omega arith
+past_editions (suc (suc zero)) h = omega arith
+past_editions (suc (suc (suc zero))) h = omega arith
+past_editions (suc (suc (suc (suc e)))) h = refl
 
 pub returns-in-0 : goal.returns-in-0
 unfolding ceiling
@@ -29,4 +30,4 @@ unfolding ceiling
 returns-in-3 c = sym (ap ceiling c.in-3.is)
 
 pub returns-in_default : goal.returns-in_default
-returns-in_default c = past-editions _ (omega arith)
+returns-in_default c = past_editions _ (omega arith)

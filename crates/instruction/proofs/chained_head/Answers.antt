@@ -1,3 +1,4 @@
+-- Plain but for bit 31, and with a chain behind it that rises.
 use mathlib.Core.Path.{refl, sym, ◌∙◌}
 use native.Mathlib.Omega.{arith}
 use borrow.Author.Tests.{not-false}

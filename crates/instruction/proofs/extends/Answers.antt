@@ -1,3 +1,4 @@
+-- The tests are those of the definitions.
 use Rattle.instruction.proofs.extends.Goals as goal
 
 pub returns : goal.returns

@@ -1,3 +1,4 @@
+-- Unread; counted, with a head that is told at once or not; or uncounted.
 use mathlib.Core.Path.{◌∙◌}
 use Rattle.layouts.proofs.Others.{is_counted, is_uncounted}
 use Rattle.instruction.proofs.Verdicts.{verdict_known, verdict_unread_at}

@@ -1,3 +1,4 @@
+-- Operands and tail, in the order of the definition.
 use mathlib.Core.Path.{refl}
 use native.Mathlib.Omega.{arith}
 use lib.ListN.{get_or}

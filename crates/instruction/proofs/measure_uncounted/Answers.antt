@@ -1,3 +1,4 @@
+-- A declaration that is fine the quick way; or any code without a count, by its shape.
 use mathlib.Core.Path.{◌∙◌}
 use native.Mathlib.Omega.{arith}
 use Rattle.instruction_fields.proofs.BareTokens.{declared_by}

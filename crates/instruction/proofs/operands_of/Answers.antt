@@ -1,4 +1,3 @@
-use Prim.Native.Nat.{◌-◌}
 use native.Mathlib.Omega.{arith}
 use Rattle.format.proofs.Dwords.{length_dwords}
 use Rattle.instruction.proofs.Runs.{begin, told, untold, turn_to, small, finished, stopped}

@@ -1,3 +1,4 @@
+-- A usual operand is as long as its dword says.
 use native.Mathlib.Omega.{arith}
 use Rattle.format.specs.Dwords.{dwords_of}
 use Rattle.instruction.proofs.Usually.{long}

@@ -1,3 +1,4 @@
+-- Plain, or looked at again.
 use mathlib.Core.Path.{sym, ◌∙◌}
 use native.Mathlib.Omega.{arith}
 use Rattle.instruction.proofs.Heads.{plain_begins, lent_there, lent_begun}

@@ -1,4 +1,5 @@
-use Prim.Native.Nat.{◌-◌, ◌<◌}
+-- Usual operands are passed by their length, others are measured.
+use Prim.Native.Nat.{◌<◌}
 use native.Mathlib.Omega.{arith}
 use lib.ListN.{drop, length}
 use Rattle.format.specs.Dwords.{dwords_of}

@@ -1,3 +1,4 @@
+-- Another declaration has not 0 dwords; this one is fine if its items end with it.
 use mathlib.Core.Path.{sym, ◌∙◌}
 use native.Mathlib.Omega.{arith}
 use borrow.Author.Tests.{not-false}

@@ -1,3 +1,4 @@
+-- An operand that was read has a row, and no more rows and words than dwords.
 use mathlib.Core.Path.{sym, ap, ◌∙◌}
 use native.Mathlib.Omega.{arith}
 use lib.ListN.{drop}

@@ -1,4 +1,3 @@
-use Prim.Native.Nat.{◌-◌}
 use native.Mathlib.Omega.{arith}
 use Rattle.instruction_emit.proofs.Emitting.{begin, turn_ready, turns, ended}
 use Rattle.instruction_emit.proofs.run.Goals as goal

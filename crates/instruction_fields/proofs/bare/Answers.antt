@@ -1,3 +1,4 @@
+-- The tests are those of the definition.
 use Rattle.instruction_fields.proofs.bare.Goals as goal
 
 pub returns : goal.returns

@@ -1,3 +1,4 @@
+-- One comparison where there is no test; two where there is.
 use Rattle.instruction_fields.proofs.Tokens.{no_test, a_test}
 use Rattle.instruction_fields.proofs.plain.Goals as goal
 

@@ -1,3 +1,4 @@
+-- A dword that is there is compared.
 use native.Mathlib.Omega.{arith}
 use Rattle.instruction_fields.proofs.Passing.{no_small_there, not_small, small_told}
 use Rattle.instruction_fields.proofs.small_at.Goals as goal

@@ -1,3 +1,4 @@
+-- The field is the one that the shape tells; the other numbers are none.
 use Rattle.instruction_write.proofs.Declaring.{declared_row_is}
 use Rattle.instruction_write.proofs.declared_row.Goals as goal
 

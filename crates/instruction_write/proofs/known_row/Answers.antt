@@ -1,3 +1,4 @@
+-- The fields of the token and the bits of the extensions.
 use Rattle.layouts.specs.Shapes.{meant}
 use native.Mathlib.Omega.{arith}
 use Rattle.format.specs.Dwords.{dwords_of}

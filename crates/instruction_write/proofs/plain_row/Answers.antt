@@ -1,3 +1,4 @@
+-- The fields are the bits of a plain token.
 use native.Mathlib.Omega.{arith}
 use Rattle.instruction_write.proofs.Plainly.{plain_row_is}
 use Rattle.instruction_write.proofs.plain_row.Goals as goal

@@ -1,3 +1,4 @@
+-- The row of a plain token, or of any other.
 use mathlib.Core.Path.{sym, ◌∙◌}
 use native.Mathlib.Omega.{arith}
 use Rattle.format.specs.Dwords.{dwords_of}

@@ -1,4 +1,3 @@
-use Prim.Native.Nat.{◌-◌}
 use native.Mathlib.Omega.{arith}
 use Rattle.format.proofs.Dwords.{length_dwords}
 use Rattle.instruction_write.proofs.Types.{sum_begin, type_range, sum_small, sums_on, summed}

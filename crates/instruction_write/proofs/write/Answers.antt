@@ -1,3 +1,4 @@
+-- Unread, counted or not.
 use mathlib.Core.Path.{◌∙◌}
 use Rattle.layouts.proofs.Others.{is_counted, is_uncounted}
 use Rattle.instruction_write.proofs.Counting.{either}

@@ -1,3 +1,4 @@
+-- Chain, parts and row, as they were accepted.
 use mathlib.Core.Path.{refl}
 use Rattle.format.specs.Dwords.{dwords_of}
 use Rattle.instruction_fields.proofs.Counted.{no_chain}

@@ -1,3 +1,4 @@
+-- Operands, and the dwords behind them.
 use mathlib.Core.Path.{refl}
 use native.Mathlib.Omega.{arith}
 use Rattle.format.specs.Dwords.{dwords_of}

@@ -1,3 +1,4 @@
+-- Parts and row, by the shape of a row of the table.
 use Rattle.format.specs.Dwords.{dwords_of}
 use Rattle.instruction_write.proofs.Declaring.{declared_room, declared_ready, declared_written}
 use Rattle.instruction_write.proofs.write_declared.Goals as goal

@@ -1,3 +1,4 @@
+-- One turn of the loop over operands, or none.
 use mathlib.Core.Path.{refl}
 use native.Mathlib.Omega.{arith}
 use Rattle.format.specs.Dwords.{dwords_of}

@@ -1,3 +1,4 @@
+-- Dwords, an operand at most, and the dwords behind it.
 use mathlib.Core.Path.{refl}
 use native.Mathlib.Omega.{arith}
 use Rattle.format.specs.Dwords.{dwords_of}

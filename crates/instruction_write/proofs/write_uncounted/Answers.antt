@@ -1,5 +1,6 @@
+-- A declaration, or another code without operands.
 use mathlib.Core.Path.{sym, ◌∙◌}
-use borrow.Author.Tests.{not-true, not-false}
+use borrow.Author.Tests.{not-true}
 use Rattle.format.specs.Dwords.{dwords_of}
 use Rattle.instruction_write.proofs.Declaring.{bare, roomless}
 use Rattle.std.proofs.Common.{ap, not}

@@ -1,3 +1,4 @@
+-- A head, and dwords that are all words.
 use mathlib.Core.Path.{refl}
 use native.Mathlib.Omega.{arith}
 use Rattle.format.specs.Dwords.{dwords_of}

@@ -1,3 +1,4 @@
+-- A counted code has the layout of its count.
 use Rattle.layouts.proofs.Others.{counts}
 use Rattle.layouts.proofs.counted_layout.Goals as goal
 

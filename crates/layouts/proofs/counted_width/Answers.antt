@@ -1,3 +1,4 @@
+-- The comparisons are those of the definition.
 use borrow.Author.Tests.{eq-eqb, ne_eqb}
 use Rattle.layouts.specs.Table.{width_of}
 use Rattle.layouts.proofs.counted_width.Goals as goal

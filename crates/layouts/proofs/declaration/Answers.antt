@@ -1,3 +1,4 @@
+-- A code has a row below the table's end, or none.
 use borrow.Author.Rules.{rules}
 use Rattle.layouts.proofs.Table.{declares_row, declares_none}
 use Rattle.layouts.proofs.declaration.Goals as goal

@@ -1,3 +1,4 @@
+-- Shifts are division and multiplication by powers of 2, and nothing is lost.
 use native.Mathlib.Omega.{arith}
 use Rattle.layouts.proofs.Fields.{divides, by_shifts}
 use Rattle.layouts.proofs.field_of.Goals as goal

@@ -1,3 +1,4 @@
+-- The bounded bits begin at bit 11.
 use native.Mathlib.Omega.{arith}
 use Rattle.layouts.proofs.Fields.{divides, unbounded, bounds}
 use Rattle.layouts.proofs.in_bounds.Goals as goal

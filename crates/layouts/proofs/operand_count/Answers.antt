@@ -1,3 +1,4 @@
+-- Each arm has even or odd codes of a line.
 use mathlib.Core.Path.{refl}
 use lib.ListN.{take, drop}
 use Rattle.format.specs.Counts.{numbers, within, line_of, operand_count}

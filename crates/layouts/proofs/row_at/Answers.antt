@@ -1,3 +1,4 @@
+-- Each arm's index is inside the table, and its entry is right by the table's rule.
 use Prim.Native.Nat.{zero-le}
 use lib.Dec.{lit<}
 use Rattle.layouts.proofs.Table.{rows, entry, past}

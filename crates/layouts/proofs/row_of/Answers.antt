@@ -1,3 +1,4 @@
+-- The comparisons are those of the definition.
 use borrow.Author.Rules.{rules}
 use Rattle.layouts.proofs.Table.{row_under, row_first, row_120, row_between, row_second, row_206, row_over}
 use Rattle.layouts.proofs.row_of.Goals as goal

@@ -1,3 +1,4 @@
+-- A code with a row has the layout that the row tells; which tests hold says which of the others it is.
 use native.Mathlib.Omega.{arith}
 use borrow.Author.Tests.{eq-eqb, ne_eqb}
 use Rattle.layouts.proofs.Table.{of_row}

@@ -1,3 +1,4 @@
+-- `print_chunk` prints only rows that decode has written.
 use Rattle.list.proofs.Inside.{rows_inside}
 use Rattle.list.proofs.print_chunk.Goals as goal
 

@@ -1,4 +1,4 @@
-use Prim.Native.Nat.{◌+◌, ◌-◌, ◌*◌}
+use Prim.Native.Nat.{◌+◌, ◌*◌}
 use Rattle.operand_emit.proofs.+deep_index.Given as goal
 
 abbrev pub decreases-deep : goal.decreases-deep

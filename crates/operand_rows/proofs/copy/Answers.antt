@@ -1,6 +1,5 @@
 use Rattle.format.proofs.Dwords.{length_dwords}
 use mathlib.Core.Path.{◌≡◌}
-use Prim.Native.Nat.{◌-◌}
 use mathlib.Core.Path.{refl}
 use native.Mathlib.Omega.{arith}
 use Rattle.operand_rows.proofs.Copies.{copies}

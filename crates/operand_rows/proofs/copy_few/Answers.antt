@@ -1,3 +1,4 @@
+-- One dword after the other, until there are enough.
 use native.Mathlib.Omega.{arith}
 use lib.ListN.{length-set}
 use Rattle.format.proofs.Dwords.{length_dwords}

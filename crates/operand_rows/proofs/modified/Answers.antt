@@ -1,3 +1,4 @@
+-- One dword is copied, and the row is that of one index.
 use mathlib.Core.Path.{refl}
 use native.Mathlib.Omega.{arith}
 use Rattle.format.specs.Dwords.{dwords_of}

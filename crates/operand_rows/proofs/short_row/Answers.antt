@@ -1,3 +1,4 @@
+-- The selection of an exact dword takes all of its bits.
 use native.Mathlib.Omega.{arith}
 use Rattle.tokens.proofs.Low.{exact_selection}
 use Rattle.operand_rows.proofs.short_row.Goals as goal

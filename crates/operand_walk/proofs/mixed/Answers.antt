@@ -1,4 +1,4 @@
-use Rattle.std.proofs.Common.{◌-◌, ◌∙◌, arith}
+use Rattle.std.proofs.Common.{◌∙◌, arith}
 use Rattle.operand_deep.proofs.SameRows.{rest_long}
 use Rattle.operand_walk.proofs.Alone.{unsaid}
 use Rattle.operand_walk.proofs.Runs.{spans, mixing_near, mixed_all, row_there, row_starts, single_on, pointed_on, two_there}

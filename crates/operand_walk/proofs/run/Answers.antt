@@ -1,4 +1,4 @@
-use Rattle.std.proofs.Common.{◌-◌, refl, arith}
+use Rattle.std.proofs.Common.{refl, arith}
 use borrow.Author.Tests.{not-false}
 use Rattle.operand_deep.proofs.SameRows.{rest_long}
 use Rattle.operand_walk.proofs.Alone.{unsaid}

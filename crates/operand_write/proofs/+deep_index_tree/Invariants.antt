@@ -1,4 +1,4 @@
-use Prim.Native.Nat.{◌+◌, ◌-◌, ◌*◌}
+use Prim.Native.Nat.{◌+◌, ◌*◌}
 use Rattle.operand_write.proofs.+deep_index_tree.Given as goal
 
 abbrev pub decreases-deep : goal.decreases-deep

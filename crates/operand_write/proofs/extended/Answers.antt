@@ -1,3 +1,4 @@
+-- One extension and one index, or any other.
 use Prim.Native.Nat.{◌/◌}
 use mathlib.Core.Path.{◌≡◌, refl, sym, ◌∙◌}
 use mathlib.Core.List.{◌∷◌, []}

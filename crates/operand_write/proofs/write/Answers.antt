@@ -1,3 +1,4 @@
+-- Each way writes what its contract says, of an operand that was read.
 use native.Mathlib.Omega.{arith}
 use Rattle.format.specs.Dwords.{dwords_of}
 use Rattle.format.proofs.Dwords.{length_dwords}

@@ -1,3 +1,4 @@
+-- A short operand, or any other.
 use Rattle.format.specs.Dwords.{dwords_of}
 use Rattle.operand_write.proofs.Readings.{inside}
 use Rattle.operand_write.proofs.Writing.{short_room, short_wrote}

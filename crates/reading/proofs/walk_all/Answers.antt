@@ -1,4 +1,3 @@
-use Prim.Native.Nat.{◌-◌}
 use native.Mathlib.Omega.{arith}
 use Rattle.reading.proofs.Walks.{begin, from_here, step_whole, walk_whole, went_on, went_off, limit_past, rows_left, words_left, all_told}
 use Rattle.reading.proofs.walk_all.Goals as goal

@@ -1,3 +1,4 @@
+-- `begins` is safe and ends: it compares each byte once.
 use Rattle.std.proofs.Common.{◌-◌, ◌≤◌}
 use Rattle.restored.proofs.begins.Given as goal
 

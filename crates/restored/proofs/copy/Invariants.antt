@@ -1,3 +1,4 @@
+-- `copy` is safe and ends: it copies each entry once.
 use Rattle.std.proofs.Common.{◌≡◌, ◌-◌, ◌≤◌, length}
 use Rattle.restored.proofs.copy.Given as goal
 

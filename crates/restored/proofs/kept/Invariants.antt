@@ -1,3 +1,4 @@
+-- `kept` is safe and ends: it compares each byte once.
 use Rattle.std.proofs.Common.{◌-◌, length}
 use Rattle.restored.proofs.kept.Given as goal
 

@@ -1,3 +1,4 @@
+-- `nest_all` is safe and ends: it lays each row once.
 use Rattle.std.proofs.Common.{◌≡◌, ◌-◌, length}
 use Rattle.restored.proofs.nest_all.Given as goal
 

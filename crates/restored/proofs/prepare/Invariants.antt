@@ -1,3 +1,4 @@
+-- `prepare` is safe and ends: it sets each byte once.
 use Rattle.std.proofs.Common.{◌≡◌, ◌-◌, ◌≤◌, length}
 use Rattle.restored.proofs.prepare.Given as goal
 

@@ -1,3 +1,4 @@
+-- `with_entries` is safe and ends: it changes each entry once.
 use Rattle.std.proofs.Common.{◌≡◌, ◌-◌, length}
 use Rattle.restored.proofs.with_entries.Given as goal
 

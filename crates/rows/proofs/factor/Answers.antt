@@ -1,3 +1,4 @@
+-- `factor` gives the float of a dword's bits: at the bits of a NaN, 0.0 / 0.0, which is one.
 use mathlib.Core.Path.{sym, subst}
 use mathlib.Core.Bool.{Bool, not}
 use lib.Dec.{T}

@@ -1,3 +1,4 @@
+-- `inside` tells whether a row is reached.
 use mathlib.Core.Path.{ap, ◌∙◌}
 use Prim.Native.Nat.{ℕ, ◌/◌}
 use lib.ListN.{length}

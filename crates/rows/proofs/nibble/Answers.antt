@@ -1,3 +1,4 @@
+-- `nibble` gives four bits as a signed number. The meaning at 7, 8 and 15 is computed in format's proofs/Vectors.antt, `signs`.
 use borrow.Author.Tests.{lt-ltb, le-ltb}
 use native.Mathlib.Omega.{arith}
 use mathlib.Core.Path.{◌∙◌}

@@ -1,3 +1,4 @@
+-- `offsets` gives a row's u, v and w.
 use native.Mathlib.Omega.{arith}
 use mathlib.Core.Path.{sym, ◌∙◌}
 use Rattle.rows.proofs.Parts.{room}

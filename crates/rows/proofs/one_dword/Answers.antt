@@ -1,3 +1,4 @@
+-- `one_dword` tells whether a code is one of the table's of one d and no o.
 use native.Mathlib.Omega.{arith}
 use Rattle.rows.proofs.Showing.{of_alone, of_run, of_none}
 use Rattle.rows.proofs.one_dword.Goals as goal

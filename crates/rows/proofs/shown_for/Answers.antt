@@ -1,3 +1,4 @@
+-- `shown_for` gives what an instruction of one word shows.
 use borrow.Author.Tests.{eq-eqb, ne_eqb}
 use mathlib.Core.Path.{sym, ap, ◌∙◌}
 use Rattle.format.specs.Calls.{shown_for}

@@ -1,3 +1,4 @@
+-- `shows` gives what a row shows.
 use native.Mathlib.Omega.{arith}
 use mathlib.Core.Path.{◌∙◌}
 use Rattle.rows.proofs.Showing.{one_room, shows_one, shows_none}

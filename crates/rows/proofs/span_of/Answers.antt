@@ -1,8 +1,8 @@
+-- `span_of` gives a span of the word pool and its place. Its sum stands only where it is at most the pool's length.
 use borrow.Author.Tests.{le-leb, lt-leb}
 use native.Mathlib.Nat.{add-sub_cancel_left}
 use native.Mathlib.Omega.{arith}
 use mathlib.Core.Path.{ap, refl}
-use mathlib.Core.Logic.{⊎_elim}
 use Prim.Native.Nat.{ℕ, ◌+◌}
 use lib.ListN.{length, take, drop}
 use Rattle.rows.specs.Span.{span, span_start}

@@ -1,3 +1,4 @@
+-- `words_of` gives the part of the word pool that holds a row's words, and its place.
 use native.Mathlib.Omega.{arith}
 use mathlib.Core.Path.{sym, ◌∙◌}
 use Rattle.rows.proofs.Parts.{room, part_in, part_out}

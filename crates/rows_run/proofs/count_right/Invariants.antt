@@ -1,3 +1,4 @@
+-- `count_right` is safe and ends: it asks for each of the sixteen cases once.
 use Rattle.std.proofs.Common.{◌-◌, ◌≤◌}
 use Rattle.rows_run.proofs.count_right.Given as goal
 

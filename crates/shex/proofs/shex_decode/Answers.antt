@@ -1,3 +1,4 @@
+-- What `decode` answers, in numbers.
 use Rattle.shex.proofs.Telling.{accepted, refused}
 use Rattle.shex.proofs.shex_decode.Goals as goal
 

@@ -1,3 +1,4 @@
+-- What `encode` answers, in numbers.
 use Rattle.shex.proofs.Telling.{written, unwritten}
 use Rattle.shex.proofs.shex_encode.Goals as goal
 

@@ -1,3 +1,4 @@
+-- `shex_offsets` gives what `offsets` gives.
 use Rattle.shex.proofs.Asking.{sides_of}
 use Rattle.shex.proofs.shex_offsets.Goals as goal
 

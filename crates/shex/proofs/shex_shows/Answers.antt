@@ -1,3 +1,4 @@
+-- `shex_shows` gives what `shows` gives, and the dword.
 use Rattle.shex.specs.Numbers.{shown_in_numbers}
 use Rattle.shex.proofs.Asking.{other_length, told}
 use Rattle.shex.proofs.shex_shows.Goals as goal

@@ -1,3 +1,4 @@
+-- `shex_words` tells where a row's words are.
 use mathlib.Core.Path.{refl}
 use Rattle.shex.proofs.Asking.{lies_in, lies_past, lies_outside}
 use Rattle.shex.proofs.shex_words.Goals as goal

@@ -1,3 +1,4 @@
+-- `span_of` tells where words are.
 use native.Mathlib.Omega.{arith}
 use mathlib.Core.Path.{refl}
 use Rattle.shex.proofs.Asking.{at_all, at_none}

@@ -1,4 +1,3 @@
-use Prim.Native.Nat.{◌-◌}
 use native.Mathlib.Omega.{arith}
 use Rattle.format.proofs.Dwords.{length_dwords}
 use Rattle.stream.proofs.Walks.{begin, went_on, went_off}

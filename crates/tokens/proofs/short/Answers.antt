@@ -1,3 +1,4 @@
+-- One test of the bits.
 use native.Mathlib.Omega.{arith}
 use Rattle.tokens.proofs.Usuals.{short_is, stray_fits}
 use Rattle.tokens.proofs.short.Goals as goal

@@ -1,3 +1,4 @@
+-- Each arm is a place of the list; what is none of them is past it.
 use native.Mathlib.Omega.{arith}
 use mathlib.Core.Path.{sym, ap}
 use Rattle.tokens.specs.Usuals.{stray_bits}

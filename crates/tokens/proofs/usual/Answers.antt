@@ -1,3 +1,4 @@
+-- One test of the bits.
 use native.Mathlib.Omega.{arith}
 use Rattle.tokens.proofs.Usuals.{usual_is}
 use Rattle.tokens.proofs.usual.Goals as goal

@@ -1,3 +1,4 @@
+-- The tests are those of the definition.
 use native.Mathlib.Omega.{arith}
 use borrow.Author.Tests.{not-true, not-false}
 use Rattle.tokens.proofs.Usuals.{length_other, length_indices, length_immediates, length_malformed, immediates_few}
