@@ -1,5 +1,5 @@
 -- What reading a chunk answers, and what it leaves in the pools.
-use Rattle.format.specs.Basis.{ℕ, ◌%◌, ◌≤◌, ◌≡◌, List, true, length, get_or}
+use Rattle.std.specs.Prelude.{ℕ, ◌%◌, ◌≤◌, ◌≡◌, List, true, length, get_or}
 use Rattle.format.specs.Rows.{instruction_rows, parts_words, parts_table, all_parts}
 use Rattle.format.specs.Refusals.{Outcome, answer, after, decode, Pools, pools_after}
 use Rattle.format.specs.declared.Answer.{Answer}

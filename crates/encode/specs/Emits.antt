@@ -1,5 +1,6 @@
 -- Emitting the instructions of a chunk, one after the other: what is left to be written, and what the output holds in the end.
-use Rattle.format.specs.Basis.{ℕ, ◌+◌, ◌*◌, ◌/◌, ◌^◌, ◌<◌, ◌≤◌, ◌≡◌, List, some as just, Bool, length, take}
+use Rattle.std.specs.Prelude.{ℕ, ◌+◌, ◌*◌, ◌/◌, ◌^◌, ◌<◌, ◌≤◌, ◌≡◌, List, Bool, length, take}
+use Rattle.std.proofs.Math.Option.{some as just}
 use Rattle.format.specs.Dwords.{bytes_of}
 use Rattle.format.specs.Instructions.{Instruction, all_dwords}
 use Rattle.output.specs.Puts.{put}

@@ -1,5 +1,5 @@
 -- What encoding rows and words answers, and what it leaves in the output.
-use Rattle.format.specs.Basis.{ℕ, ◌≡◌, List, length, cond, ltb}
+use Rattle.std.specs.Prelude.{ℕ, ◌≡◌, List, length, cond, ltb}
 use Rattle.format.specs.declared.Refusal.{Refusal}
 use Rattle.format.specs.declared.Refusal.TheVariants.{Edition, NoReading}
 use Rattle.format.specs.declared.Encoded.{Encoded}

@@ -1,5 +1,7 @@
 -- "Rows", its last paragraph: what a caller gets who asks for a row's words, what it shows, its u, v, w.
-use Rattle.format.specs.Basis.{ℕ, ◌+◌, ◌*◌, ◌%◌, List, [], ◌∷◌, Bool, cond, ◌&&◌, length, get_or, take, drop, eqb, ltb, leb, ℤ, pos, ◌-ℤ◌, binary32, of_bits}
+use Rattle.std.specs.Prelude.{ℕ, ◌+◌, ◌*◌, ◌%◌, List, [], ◌∷◌, Bool, cond, ◌&&◌, length, get_or, take, drop, eqb, ltb, leb, ℤ, pos, ◌-ℤ◌}
+use Rattle.std.specs.Float.{binary32}
+use Rattle.std.specs.Float.Ieee.{of_bits}
 use Rattle.format.specs.declared.Shown.{Shown}
 use Rattle.format.specs.declared.Shown.TheVariants.{Factor, Count, Nothing}
 use Rattle.format.specs.declared.Offsets.{Offsets}

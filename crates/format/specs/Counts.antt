@@ -1,5 +1,6 @@
 -- "Operand counts": the table, what a token says beside its code, and extension chains.
-use Rattle.format.specs.Basis.{ℕ, zero, suc, ◌+◌, ◌*◌, ◌-◌, ◌%◌, ◌^◌, List, [], ◌∷◌, ◌++◌, Bool, true, false, cond, ◌&&◌, ◌||◌, Option, none, some, eqb, ltb}
+use Rattle.std.specs.Prelude.{ℕ, zero, suc, ◌+◌, ◌*◌, ◌-◌, ◌%◌, ◌^◌, List, [], ◌∷◌, ◌++◌, Bool, true, false, cond, ◌&&◌, ◌||◌, eqb, ltb}
+use Rattle.std.proofs.Math.Option.{Option, none, some}
 use Rattle.format.specs.Dwords.{bits}
 
 infix 70 ◌‥◌

@@ -1,5 +1,6 @@
 -- "Declarations (kind 4), phases, custom data"; and with them the layout of every code.
-use Rattle.format.specs.Basis.{ℕ, ◌*◌, ◌-◌, ◌^◌, List, [], ◌∷◌, ◌++◌, Bool, true, cond, ◌&&◌, Option, none, some, replicate, eqb, leb, ltb}
+use Rattle.std.specs.Prelude.{ℕ, ◌*◌, ◌-◌, ◌^◌, List, [], ◌∷◌, ◌++◌, Bool, true, cond, ◌&&◌, replicate, eqb, leb, ltb}
+use Rattle.std.proofs.Math.Option.{Option, none, some}
 use Rattle.format.specs.Dwords.{bits}
 use Rattle.format.specs.Counts.{◌‥◌, within, operand_count}
 

@@ -1,5 +1,5 @@
 -- Dwords, little-endian; their bits; readers that take dwords off the front.
-use Rattle.format.specs.Basis.{ℕ, zero, suc, ◌+◌, ◌*◌, ◌-◌, ◌/◌, ◌%◌, ◌^◌, ◌<◌, List, [], ◌∷◌, Bool, true, false, length, get_or, eqb}
+use Rattle.std.specs.Prelude.{ℕ, zero, suc, ◌+◌, ◌*◌, ◌-◌, ◌/◌, ◌%◌, ◌^◌, ◌<◌, List, [], ◌∷◌, Bool, true, false, length, get_or, eqb}
 
 -- each is a byte
 abbrev pub Bytes : List ℕ → Type 0

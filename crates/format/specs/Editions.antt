@@ -1,5 +1,5 @@
 -- Demand 3: what the pools hold of one instruction, and how an older edition's entries are compared with a newer's.
-use Rattle.format.specs.Basis.{ℕ, zero, suc, ◌+◌, ◌*◌, ◌-◌, ◌/◌, ◌<◌, ◌≤◌, ◌≡◌, List, [], ◌∷◌, ◌++◌, cond, length, take, drop, ltb}
+use Rattle.std.specs.Prelude.{ℕ, zero, suc, ◌+◌, ◌*◌, ◌-◌, ◌/◌, ◌<◌, ◌≤◌, ◌≡◌, List, [], ◌∷◌, ◌++◌, cond, length, take, drop, ltb}
 use Rattle.format.specs.Dwords.{bits_from, dwords_of}
 use Rattle.format.specs.Rows.{placed, word_place, child_row, unread_row}
 use Rattle.format.specs.Refusals.{Rows}

@@ -1,5 +1,5 @@
 -- "Framing": where each instruction ends, in every edition alike; and the codes that an edition knows.
-use Rattle.format.specs.Basis.{ℕ, zero, suc, ◌%◌, ◌^◌, List, [], ◌∷◌, Bool, cond, ◌&&◌, ◌||◌, get_or, eqb}
+use Rattle.std.specs.Prelude.{ℕ, zero, suc, ◌%◌, ◌^◌, List, [], ◌∷◌, Bool, cond, ◌&&◌, ◌||◌, get_or, eqb}
 use Rattle.format.specs.Dwords.{bits, follows, Got, malformed, got, some}
 
 -- code: token bits 0-10

@@ -1,5 +1,5 @@
 -- An instruction, read from its own dwords and no others; what checks 13 and 14 say of it.
-use Rattle.format.specs.Basis.{ℕ, ◌%◌, ◌^◌, List, [], ◌∷◌, ◌++◌, Bool, cond, not, ◌&&◌, ◌||◌, length, eqb, ltb}
+use Rattle.std.specs.Prelude.{ℕ, ◌%◌, ◌^◌, List, [], ◌∷◌, ◌++◌, Bool, cond, not, ◌&&◌, ◌||◌, length, eqb, ltb}
 use Rattle.format.specs.Dwords.{bits, follows, Got, malformed, got, Reader, then, ◌>>=◌, give, fail, dword, some, none_left, chain}
 use Rattle.format.specs.Framing.{code, code_of, long, sized}
 use Rattle.format.specs.Counts.{within, Fields, token_with, rising}

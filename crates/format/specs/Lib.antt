@@ -1,4 +1,3 @@
-pub mod Basis
 pub mod Dwords
 pub mod Framing
 pub mod Counts

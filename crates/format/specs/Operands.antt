@@ -1,5 +1,5 @@
 -- "Operands".
-use Rattle.format.specs.Basis.{ℕ, zero, suc, ◌+◌, ◌*◌, ◌%◌, ◌^◌, List, [], ◌∷◌, ◌++◌, Bool, true, false, cond, ◌&&◌, ◌||◌, get_or, eqb, ltb, leb}
+use Rattle.std.specs.Prelude.{ℕ, zero, suc, ◌+◌, ◌*◌, ◌%◌, ◌^◌, List, [], ◌∷◌, ◌++◌, Bool, true, false, cond, ◌&&◌, ◌||◌, get_or, eqb, ltb, leb}
 use Rattle.format.specs.Dwords.{bits_from, bits, follows, Reader, ◌>>=◌, give, fail, dword, some, chain}
 
 -- type: bits 12-19

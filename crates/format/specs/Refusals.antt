@@ -1,5 +1,6 @@
 -- "Refusals, in order": their numbers and places, when each is given, and what the pools hold afterwards.
-use Rattle.format.specs.Basis.{ℕ, ◌+◌, ◌*◌, ◌-◌, ◌/◌, ◌%◌, ◌^◌, List, [], ◌∷◌, ◌++◌, Option, none, some, Bool, cond, not, ◌&&◌, ◌||◌, length, get_or, drop, replicate, eqb, ltb}
+use Rattle.std.specs.Prelude.{ℕ, ◌+◌, ◌*◌, ◌-◌, ◌/◌, ◌%◌, ◌^◌, List, [], ◌∷◌, ◌++◌, Bool, cond, not, ◌&&◌, ◌||◌, length, get_or, drop, replicate, eqb, ltb}
+use Rattle.std.proofs.Math.Option.{Option, none, some}
 use Rattle.format.specs.declared.Refusal.{Refusal}
 use Rattle.format.specs.declared.Refusal.TheVariants.{Edition, FourCc, Short, NotDwords, Long, Reserved, Model, Program, Size, Room, ZeroLength, PastEnd, OperandCount, Layout, NoReading, OutputShort}
 use Rattle.format.specs.declared.Answer.{Answer}

@@ -1,5 +1,5 @@
 -- "Rows": what an accepted chunk puts into the three pools. A row is 16 numbers; r operand rows and w words stand before it.
-use Rattle.format.specs.Basis.{ℕ, ◌+◌, ◌*◌, ◌%◌, ◌^◌, List, [], ◌∷◌, ◌++◌, Bool, cond, length, ltb}
+use Rattle.std.specs.Prelude.{ℕ, ◌+◌, ◌*◌, ◌%◌, ◌^◌, List, [], ◌∷◌, ◌++◌, Bool, cond, length, ltb}
 use Rattle.format.specs.Dwords.{bits}
 use Rattle.format.specs.Framing.{code, code_of, long}
 use Rattle.format.specs.Counts.{of_type, type_bits}

@@ -1,5 +1,6 @@
 -- What the checks of a chunk's header answer.
-use Rattle.format.specs.Basis.{ℕ, ◌*◌, ◌-◌, ◌/◌, List, Option, none, some, Bool, not, ◌||◌, get_or, drop, ltb}
+use Rattle.std.specs.Prelude.{ℕ, ◌*◌, ◌-◌, ◌/◌, List, Bool, not, ◌||◌, get_or, drop, ltb}
+use Rattle.std.proofs.Math.Option.{Option, none, some}
 use Rattle.format.specs.declared.Refusal.{Refusal}
 use Rattle.format.specs.Dwords.{dwords_of}
 use Rattle.format.specs.Refusals.{SHEX, first_of, header_tests, header}

@@ -1,5 +1,6 @@
 -- What measuring tells of a reading: its rows and words, and whether it is exact.
-use Rattle.format.specs.Basis.{ℕ, ◌+◌, ◌-◌, ◌≤◌, ◌≡◌, List, ◌++◌, Bool, true, some, length, drop, replicate, ◌<◌}
+use Rattle.std.specs.Prelude.{ℕ, ◌+◌, ◌-◌, ◌≤◌, ◌≡◌, List, ◌++◌, Bool, true, length, drop, replicate, ◌<◌}
+use Rattle.std.proofs.Math.Option.{some}
 use Rattle.std.proofs.Math.Seq.{slice}
 use Rattle.format.specs.Framing.{code}
 use Rattle.format.specs.Counts.{operand_count}

@@ -1,5 +1,6 @@
 -- The instruction whose row stands in front: its token and what stands after it are guessed from the row, its parts are confirmed.
-use Rattle.format.specs.Basis.{ℕ, ◌+◌, ◌%◌, ◌^◌, List, [], ◌∷◌, Option, none as nothing, some as just, Bool, true, cond, not, ◌&&◌, length, drop, take, eqb, ltb, leb}
+use Rattle.std.specs.Prelude.{ℕ, ◌+◌, ◌%◌, ◌^◌, List, [], ◌∷◌, Bool, true, cond, not, ◌&&◌, length, drop, take, eqb, ltb, leb}
+use Rattle.std.proofs.Math.Option.{Option, none as nothing, some as just}
 use Rattle.format.specs.Dwords.{follows}
 use Rattle.format.specs.Framing.{sized, length_of}
 use Rattle.format.specs.Declarations.{Item, o, d, small, s, tail, list, Layout, layout, chained}

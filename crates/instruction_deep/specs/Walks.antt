@@ -1,5 +1,6 @@
 -- What walking over the rows and words of an instruction answers.
-use Rattle.format.specs.Basis.{ℕ, ◌+◌, ◌-◌, ◌*◌, ◌/◌, ◌%◌, ◌^◌, ◌≤◌, ◌≡◌, List, ◌++◌, Option, none as nothing, some as just, Bool, true, false, cond, length, take, drop, replicate, leb}
+use Rattle.std.specs.Prelude.{ℕ, ◌+◌, ◌-◌, ◌*◌, ◌/◌, ◌%◌, ◌^◌, ◌≤◌, ◌≡◌, List, ◌++◌, Bool, true, false, cond, length, take, drop, replicate, leb}
+use Rattle.std.proofs.Math.Option.{Option, none as nothing, some as just}
 use Rattle.format.specs.Dwords.{bits}
 use Rattle.format.specs.Framing.{code, long, sized, length_of}
 use Rattle.format.specs.Counts.{Fields, token_with, rising, of_type, type_bits}

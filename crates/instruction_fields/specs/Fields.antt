@@ -1,5 +1,5 @@
 -- What is told of a token, of its fields and of the items that are dwords as they are.
-use Rattle.format.specs.Basis.{ℕ, ◌+◌, ◌-◌, ◌≤◌, ◌≡◌, List, [], ◌∷◌, ◌++◌, Bool, true, false, cond, not, ◌&&◌, ◌||◌, length, drop, replicate, eqb, ltb, ◌%◌, ◌^◌}
+use Rattle.std.specs.Prelude.{ℕ, ◌+◌, ◌-◌, ◌≤◌, ◌≡◌, List, [], ◌∷◌, ◌++◌, Bool, true, false, cond, not, ◌&&◌, ◌||◌, length, drop, replicate, eqb, ltb, ◌%◌, ◌^◌}
 use Rattle.format.specs.Dwords.{bits, Got, malformed, got, then, none_left}
 use Rattle.format.specs.Counts.{within, Fields, token_with, rising}
 use Rattle.format.specs.Framing.{code}

@@ -1,5 +1,6 @@
 -- What the short ways over a usual row answer.
-use Rattle.format.specs.Basis.{ℕ, ◌+◌, ◌-◌, ◌*◌, ◌^◌, ◌<◌, ◌≡◌, List, [], ◌∷◌, some as just, Bool, true, cond, ltb}
+use Rattle.std.specs.Prelude.{ℕ, ◌+◌, ◌-◌, ◌*◌, ◌^◌, ◌<◌, ◌≡◌, List, [], ◌∷◌, Bool, true, cond, ltb}
+use Rattle.std.proofs.Math.Option.{some as just}
 use Rattle.format.specs.Dwords.{bits}
 use Rattle.format.specs.Counts.{within, operand_count}
 use Rattle.format.specs.Declarations.{field_in, in_bounds}

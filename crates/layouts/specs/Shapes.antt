@@ -1,6 +1,6 @@
 -- What a count and a shape of the code mean, in the words of document 01's definitions.
-use Rattle.format.specs.Basis.{ℕ, ◌+◌, ◌-◌, ◌<◌, ◌≤◌, ◌≡◌, List, [], ◌∷◌, ◌++◌, Bool, cond, Option, none, some, replicate, eqb}
-use Rattle.std.specs.Prelude.{◌⊎◌}
+use Rattle.std.proofs.Math.Option.{Option, none, some}
+use Rattle.std.specs.Prelude.{◌⊎◌, ℕ, ◌+◌, ◌-◌, ◌<◌, ◌≤◌, ◌≡◌, List, [], ◌∷◌, ◌++◌, Bool, cond, replicate, eqb}
 use Rattle.format.specs.Declarations.{Item, o, d, small, s, tail, list, Field, no, from, bounded, Layout, layout}
 use Rattle.layouts.specs.declared.Shape.{Shape}
 

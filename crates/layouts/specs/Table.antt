@@ -1,5 +1,5 @@
 -- The order of the table of declarations, and the shape that a row tells.
-use Rattle.format.specs.Basis.{ℕ, ◌+◌, ◌*◌, ◌-◌, ◌/◌, ◌%◌, ◌≡◌, Bool, false, cond, ◌||◌, eqb, ltb}
+use Rattle.std.specs.Prelude.{ℕ, ◌+◌, ◌*◌, ◌-◌, ◌/◌, ◌%◌, ◌≡◌, Bool, false, cond, ◌||◌, eqb, ltb}
 use Rattle.layouts.specs.declared.Shape.{Shape}
 use Rattle.layouts.specs.Shapes.{Laid}
 

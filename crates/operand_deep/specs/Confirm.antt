@@ -1,5 +1,6 @@
 -- The operand whose rows and words stand in front: guessed from the numbers of its rows, and confirmed.
-use Rattle.format.specs.Basis.{ℕ, zero, suc, ◌+◌, ◌*◌, List, [], Option, none as nothing, some as just, cond, ◌&&◌, length, take, drop, eqb, leb}
+use Rattle.std.specs.Prelude.{ℕ, zero, suc, ◌+◌, ◌*◌, List, [], cond, ◌&&◌, length, take, drop, eqb, leb}
+use Rattle.std.proofs.Math.Option.{Option, none as nothing, some as just}
 use Rattle.format.specs.Operands.{Tree, none, plain, node, immediate, immediates, dimension, repr, own, nests, known, exact_dword, exact_extension}
 use Rattle.format.specs.Rows.{tree_words, tree_rows, operand_row}
 use Rattle.format.specs.Encoder.{at, extension_of, operand_dword, same}

@@ -1,5 +1,6 @@
 -- The chunk whose reading some rows and words are: its instructions, confirmed one after the other.
-use Rattle.format.specs.Basis.{ℕ, zero, suc, ◌+◌, ◌*◌, List, [], ◌∷◌, Option, none as nothing, some as just, Bool, true, false, cond, not, ◌&&◌, length, drop, take, eqb, leb}
+use Rattle.std.specs.Prelude.{ℕ, zero, suc, ◌+◌, ◌*◌, List, [], ◌∷◌, Bool, true, false, cond, not, ◌&&◌, length, drop, take, eqb, leb}
+use Rattle.std.proofs.Math.Option.{Option, none as nothing, some as just}
 use Rattle.format.specs.Framing.{ceiling}
 use Rattle.format.specs.declared.Refusal.{Refusal}
 use Rattle.format.specs.Instructions.{Instruction, dwords}

@@ -1,5 +1,6 @@
 -- What walking over the rows of a chunk answers.
-use Rattle.format.specs.Basis.{ℕ, ◌+◌, ◌-◌, ◌*◌, ◌/◌, ◌^◌, ◌<◌, ◌≤◌, ◌≡◌, List, Option, none as nothing, some as just, Bool, cond, length, drop, leb}
+use Rattle.std.specs.Prelude.{ℕ, ◌+◌, ◌-◌, ◌*◌, ◌/◌, ◌^◌, ◌<◌, ◌≤◌, ◌≡◌, List, Bool, cond, length, drop, leb}
+use Rattle.std.proofs.Math.Option.{Option, none as nothing, some as just}
 use Rattle.format.specs.Instructions.{Instruction, all_dwords}
 use Rattle.format.specs.Refusals.{Rows}
 use Rattle.reading.specs.Confirm.{confirm_all}

@@ -1,5 +1,5 @@
 -- A span of the word pool: its words and where it starts.
-use Rattle.format.specs.Basis.{ℕ, ◌+◌, List, [], cond, length, take, drop, leb}
+use Rattle.std.specs.Prelude.{ℕ, ◌+◌, List, [], cond, length, take, drop, leb}
 
 -- n words from a on; none where they aren't all in the pool
 unfoldable pub span : ℕ → ℕ → List ℕ → List ℕ

@@ -1,5 +1,5 @@
 -- What the calls answer, in numbers.
-use Rattle.format.specs.Basis.{ℕ, ◌≡◌, List, length, get_or}
+use Rattle.std.specs.Prelude.{ℕ, ◌≡◌, List, length, get_or}
 use Rattle.format.specs.declared.Encoded.{Encoded}
 use Rattle.format.specs.declared.Encoded.TheVariants.{Written, Unwritten}
 use Rattle.format.specs.Encoder.{encode, encode_answer, output_after}

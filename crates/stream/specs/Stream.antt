@@ -1,5 +1,6 @@
 -- What the first pass over a chunk's stream tells.
-use Rattle.format.specs.Basis.{ℕ, zero, suc, ◌+◌, ◌*◌, ◌<◌, ◌≤◌, ◌≡◌, List, Option, none, some, Bool, cond, length, drop, eqb}
+use Rattle.std.specs.Prelude.{ℕ, zero, suc, ◌+◌, ◌*◌, ◌<◌, ◌≤◌, ◌≡◌, List, Bool, cond, length, drop, eqb}
+use Rattle.std.proofs.Math.Option.{Option, none, some}
 use Rattle.format.specs.declared.Refusal.{Refusal}
 use Rattle.format.specs.declared.Refusal.TheVariants.{Layout}
 use Rattle.format.specs.Framing.{Framed, frame}

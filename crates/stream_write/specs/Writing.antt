@@ -1,5 +1,6 @@
 -- The second pass over a stream: what is still to be written, from a place on.
-use Rattle.format.specs.Basis.{ℕ, ◌+◌, ◌*◌, ◌≤◌, ◌≡◌, List, Bool, none, length, drop}
+use Rattle.std.specs.Prelude.{ℕ, ◌+◌, ◌*◌, ◌≤◌, ◌≡◌, List, Bool, length, drop}
+use Rattle.std.proofs.Math.Option.{none}
 use Rattle.format.specs.Framing.{Framed, frame}
 use Rattle.format.specs.Instructions.{Instruction}
 use Rattle.format.specs.Rows.{instruction_rows, parts_rows, parts_words, parts_table, all_parts}
