@@ -4,7 +4,7 @@ use mathlib.Core.Path.{◌≡◌, refl, ◌∙◌, ap, subst}
 use mathlib.Core.Bool.{Bool, true, false, cond}
 use mathlib.Core.List.{List, [], ◌∷◌, map}
 use native.Mathlib.Omega.{arith}
-use lib.Dec.{T, eqb, ltb, lit<}
+use lib.Dec.{eqb, ltb}
 use lib.ListN.{length, get_or}
 use borrow.Author.Tests.{ltb-true, ltb-false, lt-ltb, le-ltb, ne_eqb}
 use Rattle.format.specs.Counts.{numbers, within, line_of, operand_count}
@@ -73,13 +73,9 @@ right l z i e h =
     record { code = ap (λ x. x.0) p; laid = record { meaning = ap (λ x. x.1) p; sound = sound (shape_of (get_or l i z)) (ap (λ x. x.2) p) } }
 
 -- the rule of the whole table, computed once
-rule : (i : ℕ) → i < 40 → Right i (get_or rows i 0)
+pub rule : (i : ℕ) → i < 40 → Right i (get_or rows i 0)
 unfolding rows numbers within line_of operand_count in_table layout field_of items_of code_of
 rule i h = right rows 0 i refl h
-
--- so the table's entry k is right for a row that a `match` found to be k
-pub entry : {i : ℕ} (k : ℕ) → T (ltb k 40) → i ≡ k → Right i (get_or rows k 0)
-entry k h e = rw e (rule k (lit< h))
 
 -- what a `match` tells in its last arm: a number is none of the n numbers from a on
 abbrev Others : ℕ → ℕ → ℕ → Type 0

@@ -11,6 +11,9 @@ use header::{Checked, ceiling, decode_version, is_model51};
 use instruction_deep::Walked;
 use instruction_walk::usual;
 
+// The dwords of the longest chunk that is read, of 1,048,576 bytes.
+const MOST_DWORDS: usize = 262_144;
+
 // The dwords of the chunk that gives these rows, its two header dwords among them; or there is no such chunk.
 #[derive(Drop)]
 pub enum Read {
@@ -171,7 +174,7 @@ fn walk_all(
             Step::Off => return Read::No,
         }
     }
-    if 262_144 < s.at {
+    if MOST_DWORDS < s.at {
         return Read::No;
     }
     if s.row * 16 < operands.len() {

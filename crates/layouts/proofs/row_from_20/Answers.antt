@@ -1,7 +1,8 @@
 -- Each arm's index is inside the table, and its entry is right by the table's rule.
 use native.Mathlib.Omega.{arith}
 use lib.Dec.{lit<}
-use Rattle.layouts.proofs.Table.{rows, entry, past}
+use Rattle.layouts.proofs.Table.{rows, past}
+use Rattle.layouts.proofs.Entries.{entry}
 use Rattle.layouts.proofs.row_from_20.Goals as goal
 
 pub bounds-20 : goal.bounds-20

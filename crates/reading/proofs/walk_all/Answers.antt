@@ -23,8 +23,8 @@ loop-s-preserved c = walk_whole (went_on (step_whole c.loop-s.invariant c.next.e
 pub returns-in-Off : goal.returns-in-Off
 returns-in-Off c = went_off (step_whole c.loop-s.invariant c.next.ensures) c.in-Off.is
 
-pub returns-then-s-gt262144 : goal.returns-then-s-gt262144
-returns-then-s-gt262144 c = limit_past c.loop-s.invariant (omega (arith, c.if-s-gt262144.true))
+pub returns-then-s-gt-MOST_DWORDS : goal.returns-then-s-gt-MOST_DWORDS
+returns-then-s-gt-MOST_DWORDS c = limit_past c.loop-s.invariant (omega (arith, c.if-s-gt-MOST_DWORDS.true))
 
 pub overflow_mul-s : goal.overflow_mul-s
 overflow_mul-s c = omega (arith, c.loop-s.invariant.row_within, c.well_formed)
@@ -36,4 +36,4 @@ pub returns-then-s-words : goal.returns-then-s-words
 returns-then-s-words c = words_left c.loop-s.invariant (omega (arith, c.loop-s-test.false)) (omega (arith, c.if-s-operands.false)) (omega (arith, c.if-s-words.true))
 
 pub returns : goal.returns
-returns c = all_told c.loop-s.invariant (omega (arith, c.loop-s-test.false)) (omega (arith, c.if-s-operands.false)) (omega (arith, c.if-s-gt262144.false)) (omega (arith, c.if-s-words.false))
+returns c = all_told c.loop-s.invariant (omega (arith, c.loop-s-test.false)) (omega (arith, c.if-s-operands.false)) (omega (arith, c.if-s-gt-MOST_DWORDS.false)) (omega (arith, c.if-s-words.false))
