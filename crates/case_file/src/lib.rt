@@ -3,7 +3,7 @@
 // a whole dword, the entries of the three pools that an accepted chunk uses, and the questions, of 9 dwords each.
 #![tactic(auto)]
 
-ghost use Rattle.std.specs.Prelude.{◌≡◌, length};
+ghost use Rattle.std.specs.Prelude.{◌≡◌, length, OnErr};
 ghost use Rattle.case_file.specs.Heads as h;
 
 use format::{Answer, Refusal};
@@ -88,7 +88,7 @@ pub fn at(part: &[u8], k: usize) -> u32
     0
 }
 
-// Fills a buffer, and tells whether there were as many bytes left.
+// Fills a buffer, and tells whether there were as many bytes left. Where not, and after an error, the buffer holds any bytes.
 pub fn read_all(file: &mut File, buffer: &mut [u8]) -> io::Result<bool> {
     match file.read_exact(buffer) {
         Ok(()) => Ok(true),
@@ -205,7 +205,7 @@ fn lend(
 }
 
 // Reads the chunk of a case into room that is all zero, fills the pools and decodes the chunk. Where the file has no such chunk, the answer
-// is one that no chunk gives.
+// is one that no chunk gives. An error comes of the file alone; it leaves the pools as they were, and in the room any bytes.
 pub fn decoded(
     file: &mut File,
     head: &[u8],
@@ -213,7 +213,11 @@ pub fn decoded(
     instructions: &mut [u32],
     operands: &mut [u32],
     words: &mut [u32],
-) -> io::Result<Answer> {
+) -> io::Result<Answer>
+    ensures instructions_kept { OnErr result (instructions.new ≡ instructions.old) }
+    ensures operands_kept { OnErr result (operands.new ≡ operands.old) }
+    ensures words_kept { OnErr result (words.new ≡ words.old) }
+{
     if read_front(file, chunk, wide(at(head, GIVEN)))? {
         fill_all(head, instructions, operands, words);
         return Ok(lend(head, chunk, instructions, operands, words));

@@ -173,6 +173,9 @@ fn length_bits(t: u32) -> u32
     if sized(t) { 0 } else { t / 0x100_0000 % 128 }
 }
 
+// The code whose field takes bit 13 too.
+const SYNC: u32 = 190;
+
 // Bit 13, for kinds 1 to 3 and not for code 190.
 fn saturate(s: Shape, t: u32) -> u32
     ensures { result ≡ (ins.fields_of (meant s) t).saturate }
@@ -180,7 +183,7 @@ fn saturate(s: Shape, t: u32) -> u32
     if 4 <= s.kind {
         return 0;
     }
-    if t % 2048 == 190 {
+    if t % 2048 == SYNC {
         return 0;
     }
     t / 0x2000 % 2

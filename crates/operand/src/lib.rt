@@ -86,7 +86,8 @@ fn flat(part: &[u8], at: usize, token: u32, body: usize, exact: bool) -> Measure
     ensures { m.AnyDepth result token (slice (at + 1) body (dwords_of part.now)) (drop body (dwords_of part.now)) }
 {
     let indices = tokens::dimension(token) as usize;
-    if tokens::dwords(part) - body < indices {
+    let left = tokens::dwords(part) - body;
+    if left < indices {
         return Measured::Malformed;
     }
     Measured::Read {

@@ -68,15 +68,21 @@ fn one_dword(code: u32) -> bool
     }
 }
 
+// The bits of infinity: those above them, the sign left out, are a NaN's.
+const INFINITY: u32 = 0x7F80_0000;
+
 // The float with the dword's bits; at a NaN's bits some NaN, whose own bits aren't said.
 fn factor(x: u32) -> f32
     ensures { result ≡ of_bits binary32 x }
 {
-    if 0x7F80_0000 < x % 0x8000_0000 {
+    if INFINITY < x % 0x8000_0000 {
         return 0.0 / 0.0;
     }
     f32::from_bits(x)
 }
+
+// The code of the declaration whose dword is a factor.
+const FACTOR_CODE: u32 = 152;
 
 // What an instruction of one word shows.
 fn shown_for(kind: u32, code: u32, x: u32) -> Shown
@@ -84,7 +90,7 @@ fn shown_for(kind: u32, code: u32, x: u32) -> Shown
 {
     if kind == 4 {
         if one_dword(code) {
-            if code == 152 {
+            if code == FACTOR_CODE {
                 return Shown::Factor(factor(x));
             }
             return Shown::Count(x);
@@ -105,12 +111,15 @@ pub fn shows(instructions: &[u32], words: &[u32], row: u32, count: u32) -> Shown
     shown_for(instructions[at + 3], instructions[at + 2], part[0])
 }
 
+// The least four bits that stand for a negative number.
+const NEGATIVE: u32 = 8;
+
 // The low four bits of n, as a number from -8 to 7.
 fn nibble(n: u32) -> i8
     ensures { result ≡ calls.signed (n % 16) }
 {
     let x = n % 16;
-    if x < 8 {
+    if x < NEGATIVE {
         return x as i8;
     }
     (x as i8) - 16
@@ -122,7 +131,8 @@ pub fn offsets(instructions: &[u32], row: u32, count: u32) -> Offsets
 {
     if inside(instructions, row, count) {
         let at = 16 * wide(row);
-        if instructions[at + 8] % 2 == 1 {
+        let has_offsets = instructions[at + 8] % 2 == 1;
+        if has_offsets {
             let word = instructions[at + 9];
             let u = nibble(word);
             let v = nibble(word / 16);

@@ -6,9 +6,9 @@ use lib.Ieee.{of_bits, div}
 use Rattle.rows.proofs.Nans.{nan_of, no_nan}
 use Rattle.rows.proofs.factor.Goals as goal
 
-pub returns-then-x-gt2139095040 : goal.returns-then-x-gt2139095040
+pub returns-then-x-gt-INFINITY : goal.returns-then-x-gt-INFINITY
 unfolding div of_bits
-returns-then-x-gt2139095040 c = sym (nan_of c.args.x c.if-x-gt2139095040.true)
+returns-then-x-gt-INFINITY c = sym (nan_of c.args.x c.if-x-gt-INFINITY.true)
 
 pub float_from_bits-result : goal.float_from_bits-result
-float_from_bits-result c = subst (λ (b : Bool). T (not b)) (sym (no_nan c.args.x c.if-x-gt2139095040.false)) tt
+float_from_bits-result c = subst (λ (b : Bool). T (not b)) (sym (no_nan c.args.x c.if-x-gt-INFINITY.false)) tt

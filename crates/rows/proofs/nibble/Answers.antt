@@ -8,9 +8,9 @@ use Rattle.format.specs.Calls.{signed}
 use Rattle.rows.proofs.Nibbles.{plain, less}
 use Rattle.rows.proofs.nibble.Goals as goal
 
-pub returns-then-x-lt8 : goal.returns-then-x-lt8
+pub returns-then-x-lt-NEGATIVE : goal.returns-then-x-lt-NEGATIVE
 unfolding signed
-returns-then-x-lt8 c = let x = c.args.n % 16 in simp (lt-ltb x 8 c.if-x-lt8.true) (plain x (omega arith))
+returns-then-x-lt-NEGATIVE c = let x = c.args.n % 16 in simp (lt-ltb x 8 c.if-x-lt-NEGATIVE.true) (plain x (omega arith))
 
 pub overflow_sub-result : goal.overflow_sub-result
 overflow_sub-result c = less (c.args.n % 16) (omega arith)
@@ -19,4 +19,4 @@ pub returns : goal.returns
 unfolding signed
 returns c =
     let x = c.args.n % 16 in
-    to_z-of_z (less x (omega arith)) ∙ simp (plain x (omega arith), le-ltb x 8 c.if-x-lt8.false)
+    to_z-of_z (less x (omega arith)) ∙ simp (plain x (omega arith), le-ltb x 8 c.if-x-lt-NEGATIVE.false)

@@ -5,13 +5,13 @@ use Rattle.format.specs.Calls.{shown_for}
 use Rattle.format.specs.declared.Shown.TheVariants.{Factor}
 use Rattle.rows.proofs.shown_for.Goals as goal
 
-pub returns-then-code-eq152 : goal.returns-then-code-eq152
+pub returns-then-code-eq-FACTOR_CODE : goal.returns-then-code-eq-FACTOR_CODE
 unfolding shown_for
-returns-then-code-eq152 c = simp (eq-eqb _ _ c.if-kind-eq4.true, sym c.one_dword.ensures ∙ c.if-one_dword.true, eq-eqb _ _ c.if-code-eq152.true) (ap Factor c.factor.ensures)
+returns-then-code-eq-FACTOR_CODE c = simp (eq-eqb _ _ c.if-kind-eq4.true, sym c.one_dword.ensures ∙ c.if-one_dword.true, eq-eqb _ _ c.if-code-eq-FACTOR_CODE.true) (ap Factor c.factor.ensures)
 
 pub returns-then-one_dword : goal.returns-then-one_dword
 unfolding shown_for
-returns-then-one_dword c = simp (eq-eqb _ _ c.if-kind-eq4.true, sym c.one_dword.ensures ∙ c.if-one_dword.true, ne_eqb _ _ c.if-code-eq152.false)
+returns-then-one_dword c = simp (eq-eqb _ _ c.if-kind-eq4.true, sym c.one_dword.ensures ∙ c.if-one_dword.true, ne_eqb _ _ c.if-code-eq-FACTOR_CODE.false)
 
 pub returns-else-one_dword : goal.returns-else-one_dword
 unfolding shown_for
