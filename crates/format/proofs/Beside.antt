@@ -9,9 +9,10 @@ use lib.Seq.{take_at, drop-drop, drop-append_seam}
 use lib.Dec.{ltb, lit≤}
 use native.Mathlib.Omega.{arith}
 use native.Mathlib.Nat.{add-zero, add-suc}
+use Rattle.std.specs.Prelude.{Ok, Err}
 use borrow.Author.Tests.{lt-ltb, le-ltb}
 use Rattle.format.specs.declared.Refusal.{Refusal}
-use Rattle.format.specs.declared.Answer.TheVariants.{Accepted, Refused}
+use Rattle.format.specs.declared.Accepted.{Accepted}
 use Rattle.format.specs.Dwords.{dwords_of}
 use Rattle.format.specs.Framing.{code_of, ceiling}
 use Rattle.format.specs.Instructions.{Instruction, unread, pieces, dwords, all_dwords}
@@ -137,35 +138,35 @@ module _ (older newer four : ℕ) (chunk : List ℕ) (p p' : Pools) (h : older �
       go (some x) e = e
 
   -- stated about the answers and what the pools hold after the two calls
-  pub older_answers : (v n o w : ℕ) → answer (decode newer four chunk p) ≡ Accepted v n o w → (o' : ℕ) × (w' : ℕ) × (answer (decode older four chunk p') ≡ Accepted v n o' w')
-  older_answers v n o w e =
+  pub older_answers : (a : Accepted) → answer (decode newer four chunk p) ≡ Ok a → (o' : ℕ) × (w' : ℕ) × (answer (decode older four chunk p') ≡ Ok (record a { operands = o'; words = w' }))
+  older_answers a e =
       let r = answer_read (decode newer four chunk p) e in
       let l = map (lower (ceiling older)) r.list in
-      let z : length l ≡ n = length_map (lower (ceiling older)) r.list ∙ r.instructions in
-      (parts_rows (all_parts l), length (parts_words (all_parts l)), ap answer (older_accepts r.is) ∙ answer_accepted v l z refl refl)
+      let z : length l ≡ a.instructions = length_map (lower (ceiling older)) r.list ∙ r.instructions in
+      (parts_rows (all_parts l), length (parts_words (all_parts l)), ap answer (older_accepts r.is) ∙ answer_accepted a.version l z refl refl)
 
-  pub entries_beside : (v n o w : ℕ) → answer (decode newer four chunk p) ≡ Accepted v n o w → (k : ℕ) → k < n →
+  pub entries_beside : (a : Accepted) → answer (decode newer four chunk p) ≡ Ok a → (k : ℕ) → k < a.instructions →
       Beside (ceiling older) chunk (entry (reading (decode newer four chunk p) p) k) (entry (reading (decode older four chunk p') p') k)
-  entries_beside v n o w e k hk =
+  entries_beside a e k hk =
       let r = answer_read (decode newer four chunk p) e in
       let lo = ceiling older in
       let c = chunk_accepted newer four chunk (decode_accepted newer four chunk p r.is).1 in
       let s : drop 2 (dwords_of chunk) ≡ all_dwords r.list = sym (reads_dwords c.body_read.reads) in
       let kl : k < length r.list = subst (λ (m : ℕ). k < m) (sym r.instructions) hk in
       let kl' : k < length (map (lower lo) r.list) = subst (λ (m : ℕ). k < m) (sym (length_map (lower lo) r.list)) kl in
-      let new : entry (reading (decode newer four chunk p) p) k ≡ nth 8 0 0 r.list k = ap (λ (a : Outcome). entry (reading a p) k) r.is ∙ entry_nth v r.list p k kl in
-      let old : entry (reading (decode older four chunk p') p') k ≡ nth 8 0 0 (map (lower lo) r.list) k = ap (λ (a : Outcome). entry (reading a p') k) (older_accepts r.is) ∙ entry_nth v (map (lower lo) r.list) p' k kl' in
+      let new : entry (reading (decode newer four chunk p) p) k ≡ nth 8 0 0 r.list k = ap (λ (x : Outcome). entry (reading x p) k) r.is ∙ entry_nth a.version r.list p k kl in
+      let old : entry (reading (decode older four chunk p') p') k ≡ nth 8 0 0 (map (lower lo) r.list) k = ap (λ (x : Outcome). entry (reading x p') k) (older_accepts r.is) ∙ entry_nth a.version (map (lower lo) r.list) p' k kl' in
       subst₂ (Beside lo chunk) (sym new) (sym old) (besides chunk lo 2 0 0 0 0 r.list s k kl)
 
-  pub older_refusal : (r : Refusal) → answer (decode newer four chunk p) ≡ Refused r → (12 < number r → code_of (drop (place r / 4) (dwords_of chunk)) < ceiling older) → answer (decode older four chunk p') ≡ Refused r
+  pub older_refusal : (r : Refusal) → answer (decode newer four chunk p) ≡ Err r → (12 < number r → code_of (drop (place r / 4) (dwords_of chunk)) < ceiling older) → answer (decode older four chunk p') ≡ Err r
   older_refusal r e n = (answer_refused _ r).1 (older_refuses ((answer_refused _ r).0 e) n)
 
 -- an instruction's kind depends on its code and the edition only
-pub kind_depends : (edition four : ℕ) (chunk : List ℕ) (p : Pools) (v n o w : ℕ) → answer (decode edition four chunk p) ≡ Accepted v n o w → (k : ℕ) → k < n →
+pub kind_depends : (edition four : ℕ) (chunk : List ℕ) (p : Pools) (a : Accepted) → answer (decode edition four chunk p) ≡ Ok a → (k : ℕ) → k < a.instructions →
     at 3 (entry (reading (decode edition four chunk p) p) k).row ≡ kind_under (ceiling edition) (at 2 (entry (reading (decode edition four chunk p) p) k).row)
-kind_depends edition four chunk p v n o w e k hk =
+kind_depends edition four chunk p a e k hk =
     let r = answer_read (decode edition four chunk p) e in
     let c = chunk_accepted edition four chunk (decode_accepted edition four chunk p r.is).1 in
     let kl : k < length r.list = subst (λ (m : ℕ). k < m) (sym r.instructions) hk in
-    let new : entry (reading (decode edition four chunk p) p) k ≡ nth 8 0 0 r.list k = ap (λ (a : Outcome). entry (reading a p) k) r.is ∙ entry_nth v r.list p k kl in
+    let new : entry (reading (decode edition four chunk p) p) k ≡ nth 8 0 0 r.list k = ap (λ (x : Outcome). entry (reading x p) k) r.is ∙ entry_nth a.version r.list p k kl in
     subst (λ (x : Entry). at 3 x.row ≡ kind_under (ceiling edition) (at 2 x.row)) (sym new) (kinds c.body_read.reads 8 0 0 k kl)

@@ -7,9 +7,10 @@ use mathlib.Core.Option.{none}
 use mathlib.Core.Bool.{cond}
 use lib.ListN.{length, get_or, drop}
 use lib.Dec.{ltb}
+use Rattle.std.specs.Prelude.{Ok, Err}
 use Rattle.format.specs.declared.Refusal.{Refusal}
 use Rattle.format.specs.declared.Refusal.TheVariants.{NoReading}
-use Rattle.format.specs.declared.Answer.TheVariants.{Accepted, Refused}
+use Rattle.format.specs.declared.Accepted.{Accepted}
 use Rattle.format.specs.Dwords.{Bytes, dwords_of}
 use Rattle.format.specs.Framing.{code_of, ceiling}
 use Rattle.format.specs.Declarations.{layout}
@@ -27,7 +28,7 @@ pub P1_to_P10 : AllRight cases
 P1_to_P10 = jointly
 
 -- every accepted chunk gives its own reading
-pub accepted_gives : (edition four : ℕ) (chunk : List ℕ) (p : Pools) (v i o w : ℕ) → Bytes chunk → answer (decode edition four chunk p) ≡ Accepted v i o w → Gives edition (reading (decode edition four chunk p) p) chunk
+pub accepted_gives : (edition four : ℕ) (chunk : List ℕ) (p : Pools) (a : Accepted) → Bytes chunk → answer (decode edition four chunk p) ≡ Ok a → Gives edition (reading (decode edition four chunk p) p) chunk
 accepted_gives = encoder.accepted_gives
 
 -- Restored: the rows and words that a chunk gives are encoded to exactly its bytes, whatever stands past the counts in the pools
@@ -50,12 +51,12 @@ determined edition edition' q chunk chunk' g g' = encoder.gives_one g g'
 -- Demand 3. For any chunk, an older and a newer edition, and pools of the length that document 01 requires
 pub record OldBesideNew (older newer four : ℕ) (chunk : List ℕ) (p p' : Pools) : Type 0 where
   -- if the newer accepts, so does the older, with the same version token and number of instructions
-  pub accepts : (v n o w : ℕ) → answer (decode newer four chunk p) ≡ Accepted v n o w → (o' : ℕ) × (w' : ℕ) × (answer (decode older four chunk p') ≡ Accepted v n o' w')
+  pub accepts : (a : Accepted) → answer (decode newer four chunk p) ≡ Ok a → (o' : ℕ) × (w' : ℕ) × (answer (decode older four chunk p') ≡ Ok (record a { operands = o'; words = w' }))
   -- and what the pools hold of each instruction is the same, or unread: see Beside
-  pub entries : (v n o w : ℕ) → answer (decode newer four chunk p) ≡ Accepted v n o w → (k : ℕ) → k < n →
+  pub entries : (a : Accepted) → answer (decode newer four chunk p) ≡ Ok a → (k : ℕ) → k < a.instructions →
       Beside (ceiling older) chunk (entry (reading (decode newer four chunk p) p) k) (entry (reading (decode older four chunk p') p') k)
   -- a refusal in the header, in framing, or (past 12) inside an instruction whose code the older knows is the older's too
-  pub refuses : (r : Refusal) → answer (decode newer four chunk p) ≡ Refused r → (12 < number r → code_of (drop (place r / 4) (dwords_of chunk)) < ceiling older) → answer (decode older four chunk p') ≡ Refused r
+  pub refuses : (r : Refusal) → answer (decode newer four chunk p) ≡ Err r → (12 < number r → code_of (drop (place r / 4) (dwords_of chunk)) < ceiling older) → answer (decode older four chunk p') ≡ Err r
 
 pub editions : (older newer four : ℕ) (chunk : List ℕ) (p p' : Pools) → older ≤ newer → newer ≤ 3 → room chunk p ≡ none → room chunk p' ≡ none → OldBesideNew older newer four chunk p p'
 editions older newer four chunk p p' h k a b = record {
@@ -92,6 +93,6 @@ in_room edition q chunk g =
     }
 
 -- Kind 0 depends on code and edition only: a reader that decodes the first instruction and marks later ones unread is shut out
-pub kinds : (edition four : ℕ) (chunk : List ℕ) (p : Pools) (v n o w : ℕ) → answer (decode edition four chunk p) ≡ Accepted v n o w → (k : ℕ) → k < n →
+pub kinds : (edition four : ℕ) (chunk : List ℕ) (p : Pools) (a : Accepted) → answer (decode edition four chunk p) ≡ Ok a → (k : ℕ) → k < a.instructions →
     let row = (entry (reading (decode edition four chunk p) p) k).row in at 3 row ≡ cond (ltb (at 2 row) (ceiling edition)) (layout (at 2 row)).kind 0
 kinds = beside.kind_depends

@@ -9,11 +9,11 @@ use lib.ListN.{length, take, drop, replicate, length-take, length-replicate}
 use lib.Seq.{take_at, length-take-le}
 use lib.Dec.{ltb, eqb}
 use native.Mathlib.Omega.{arith}
+use Rattle.std.specs.Prelude.{Result, Ok, Err}
 use borrow.Author.Tests.{ltb-true, ltb-false, le-ltb, eqb-true, eq-eqb}
 use Rattle.format.specs.declared.Refusal.{Refusal}
 use Rattle.format.specs.declared.Refusal.TheVariants.{Edition, NoReading, OutputShort}
-use Rattle.format.specs.declared.Answer.{Answer}
-use Rattle.format.specs.declared.Answer.TheVariants.{Accepted, Refused}
+use Rattle.format.specs.declared.Accepted.{Accepted}
 use Rattle.format.specs.Dwords.{Bytes, bytes_of}
 use Rattle.format.specs.Instructions.{Instruction}
 use Rattle.format.specs.Rows.{instruction_rows, parts_rows, parts_words, parts_table, all_parts}
@@ -41,25 +41,26 @@ abbrev pub rows_of : List Instruction → Pools
 rows_of l = record { instructions = instruction_rows 8 0 0 l; operands = parts_table 0 0 (all_parts l); words = parts_words (all_parts l) }
 
 -- what an accepted answer says
-pub record Read (a : Outcome) (v ni nr nw : ℕ) : Type 0 where
+pub record Read (a : Outcome) (told : Accepted) : Type 0 where
   pub list : List Instruction
-  pub is : a ≡ accepted v list
-  pub instructions : length list ≡ ni
-  pub operands : parts_rows (all_parts list) ≡ nr
-  pub words : length (parts_words (all_parts list)) ≡ nw
+  pub is : a ≡ accepted told.version list
+  pub instructions : length list ≡ told.instructions
+  pub operands : parts_rows (all_parts list) ≡ told.operands
+  pub words : length (parts_words (all_parts list)) ≡ told.words
 
-pub answer_read : (a : Outcome) {v ni nr nw : ℕ} → answer a ≡ Accepted v ni nr nw → Read a v ni nr nw
+pub answer_read : (a : Outcome) {told : Accepted} → answer a ≡ Ok told → Read a told
 unfolding answer
 answer_read (refused r) e = impossible (cc)
-answer_read (accepted u l) {v} e = let z : u ≡ v = cc in record { list = l; is = ap (λ (k : ℕ). accepted k l) z; instructions = (cc); operands = (cc); words = (cc) }
+answer_read (accepted u l) {told} e = let z : u ≡ told.version = cc in record { list = l; is = ap (λ (k : ℕ). accepted k l) z; instructions = (cc); operands = (cc); words = (cc) }
 
-pub answer_accepted : (v : ℕ) (l : List Instruction) {ni nr nw : ℕ} → length l ≡ ni → parts_rows (all_parts l) ≡ nr → length (parts_words (all_parts l)) ≡ nw → answer (accepted v l) ≡ Accepted v ni nr nw
+pub answer_accepted : (v : ℕ) (l : List Instruction) {ni nr nw : ℕ} → length l ≡ ni → parts_rows (all_parts l) ≡ nr → length (parts_words (all_parts l)) ≡ nw →
+    answer (accepted v l) ≡ Ok (record { version = v; instructions = ni; operands = nr; words = nw })
 unfolding answer
-answer_accepted v l a b c = λ i. Accepted v (a i) (b i) (c i)
+answer_accepted v l a b c = λ i. Ok (record { version = v; instructions = a i; operands = b i; words = c i })
 
-pub answer_refused : (a : Outcome) (r : Refusal) → (answer a ≡ Refused r) ↔ (a ≡ refused r)
+pub answer_refused : (a : Outcome) (r : Refusal) → (answer a ≡ Err r) ↔ (a ≡ refused r)
 unfolding answer
-answer_refused (refused x) r = ((λ e. let q : x ≡ r = cc in ap refused q), (λ e. let q : x ≡ r = cc in ap Refused q))
+answer_refused (refused x) r = ((λ e. let q : x ≡ r = cc in ap refused q), (λ e. let q : x ≡ r = cc in ap Err q))
 answer_refused (accepted v l) r = ((λ e. impossible (cc)), (λ e. impossible (cc)))
 
 -- a chunk that gives rows is read to them, and they are these
@@ -274,13 +275,13 @@ encoded_gives e q size out h = go (encode_case e q size) h
 pub gives_one : {e e' : ℕ} {q : Rows} {chunk chunk' : List ℕ} → Gives e q chunk → Gives e' q chunk' → chunk ≡ chunk'
 gives_one g g' = sym (made_again g.bytes (given g)) ∙ made_again g'.bytes (given g')
 
-pub accepted_gives : (e four : ℕ) (chunk : List ℕ) (p : Pools) (v i o w : ℕ) → Bytes chunk → answer (decode e four chunk p) ≡ Accepted v i o w → Gives e (reading (decode e four chunk p) p) chunk
+pub accepted_gives : (e four : ℕ) (chunk : List ℕ) (p : Pools) (a : Accepted) → Bytes chunk → answer (decode e four chunk p) ≡ Ok a → Gives e (reading (decode e four chunk p) p) chunk
 unfolding reading
-accepted_gives e four chunk p v i o w y h = record {
+accepted_gives e four chunk p a y h = record {
   bytes = y;
   four = four;
   pools = p;
-  answered = h ∙ sym (ap (λ (a : Answer). let q = told a (pools_after (decode e four chunk p) p) in Accepted q.version q.instructions q.operands q.words) h);
+  answered = h ∙ sym (ap (λ (b : Result Accepted Refusal). let q = told b (pools_after (decode e four chunk p) p) in Ok (record { version = q.version; instructions = q.instructions; operands = q.operands; words = q.words })) h);
   holds = refl;
 }
 

@@ -5,12 +5,12 @@ use mathlib.Core.List.{List, [], ◌∷◌, ◌++◌, map}
 use mathlib.Core.Option.{some}
 use lib.ListN.{length, get_or, replicate}
 use native.Mathlib.Omega.{arith}
+use Rattle.std.specs.Prelude.{Result, Ok, Err}
 use lib.IntN.{pos, negsuc}
 use lib.Ieee.{binary32, of_bits}
 use Rattle.format.specs.declared.Refusal.{Refusal}
 use Rattle.format.specs.declared.Refusal.TheVariants.{Edition, NotDwords, Long, OperandCount, NoReading, OutputShort}
-use Rattle.format.specs.declared.Answer.{Answer}
-use Rattle.format.specs.declared.Answer.TheVariants.{Accepted, Refused}
+use Rattle.format.specs.declared.Accepted.{Accepted}
 use Rattle.format.specs.declared.Shown.{Shown}
 use Rattle.format.specs.declared.Shown.TheVariants.{Factor, Count, Nothing}
 use Rattle.format.specs.Dwords.{bytes_of}
@@ -88,14 +88,14 @@ unfolding reading
 vectors_right = refl
 
 -- an operand at depth 63 passes, one at depth 64 doesn't
-unfoldable pub answered : List ℕ → Answer
+unfoldable pub answered : List ℕ → Result Accepted Refusal
 unfolding reading answer
 answered ds = answer (read_chunk 3 SHEX (bytes_of ds))
 
 abbrev pub nested : ℕ → List ℕ
 nested n = 0 ∷ replicate n 0x00900000 ++ 0 ∷ []
 
-pub depth : (answered (0x50 ∷ 68 ∷ 0x42000036 ∷ nested 63) ≡ Accepted 0x50 1 65 0) × (answered (0x50 ∷ 69 ∷ 0x43000036 ∷ nested 64) ≡ Refused (OperandCount 8))
+pub depth : (answered (0x50 ∷ 68 ∷ 0x42000036 ∷ nested 63) ≡ Ok (record { version = 0x50; instructions = 1; operands = 65; words = 0 })) × (answered (0x50 ∷ 69 ∷ 0x43000036 ∷ nested 64) ≡ Err (OperandCount 8))
 unfolding answered
 depth = (refl, refl)
 

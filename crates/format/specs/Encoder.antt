@@ -1,11 +1,8 @@
 -- The encoder: from a version token, counts, rows and words to the chunk; 1, 15, 16; what the output holds afterwards.
-use Rattle.std.specs.Prelude.{ℕ, zero, suc, ◌+◌, ◌*◌, ◌/◌, ◌%◌, ◌^◌, ◌≡◌, List, [], ◌∷◌, ◌++◌, Bool, true, false, cond, ◌&&◌, ◌||◌, length, get_or, take, drop, eqb, ltb}
+use Rattle.std.specs.Prelude.{ℕ, zero, suc, ◌+◌, ◌*◌, ◌/◌, ◌%◌, ◌^◌, ◌≡◌, List, [], ◌∷◌, ◌++◌, Bool, true, false, cond, ◌&&◌, ◌||◌, length, get_or, take, drop, eqb, ltb, Result, Ok, Err}
 use Rattle.std.proofs.Math.Option.{Option, none, some}
 use Rattle.format.specs.declared.Refusal.{Refusal}
 use Rattle.format.specs.declared.Refusal.TheVariants.{Edition, NoReading, OutputShort}
-use Rattle.format.specs.declared.Answer.TheVariants.{Accepted}
-use Rattle.format.specs.declared.Encoded.{Encoded}
-use Rattle.format.specs.declared.Encoded.TheVariants.{Written, Unwritten}
 use Rattle.format.specs.Dwords.{Bytes, bytes_of}
 use Rattle.format.specs.Counts.{token_with}
 use Rattle.format.specs.Operands.{own, nests, repr, immediate, immediates, extension_with, dword_with}
@@ -143,7 +140,7 @@ pub record Gives (edition : ℕ) (q : Rows) (chunk : List ℕ) : Type 0 where
   pub bytes : Bytes chunk
   pub four : ℕ
   pub pools : Pools
-  pub answered : answer (decode edition four chunk pools) ≡ Accepted q.version q.instructions q.operands q.words
+  pub answered : answer (decode edition four chunk pools) ≡ Ok (record { version = q.version; instructions = q.instructions; operands = q.operands; words = q.words })
   pub holds : held (reading (decode edition four chunk pools) pools) ≡ held q
 
 -- a refusal, or the chunk
@@ -167,14 +164,14 @@ unfoldable pub encode : ℕ → Rows → ℕ → Encoding
 encode edition q size = cond (ltb 3 edition) (unencoded Edition) (into size (chunk_giving edition q))
 
 -- the answer: the chunk's size
-unfoldable pub encode_answer : Encoding → Encoded
-encode_answer (unencoded r) = Unwritten r
-encode_answer (encoded b) = Written (length b)
+unfoldable pub encode_answer : Encoding → Result ℕ Refusal
+encode_answer (unencoded r) = Err r
+encode_answer (encoded b) = Ok (length b)
 
 -- the length that an answer tells: 0 for refusals
-abbrev pub answered_length : Encoded → ℕ
-answered_length (Written n) = n
-answered_length (Unwritten r) = 0
+abbrev pub answered_length : Result ℕ Refusal → ℕ
+answered_length (Ok n) = n
+answered_length (Err r) = 0
 
 -- refusals leave the output untouched; success changes only the first so many bytes
 unfoldable pub output_after : Encoding → List ℕ → List ℕ

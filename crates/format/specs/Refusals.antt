@@ -1,10 +1,9 @@
 -- "Refusals, in order": their numbers and places, when each is given, and what the pools hold afterwards.
-use Rattle.std.specs.Prelude.{ℕ, ◌+◌, ◌*◌, ◌-◌, ◌/◌, ◌%◌, ◌^◌, List, [], ◌∷◌, ◌++◌, Bool, cond, not, ◌&&◌, ◌||◌, length, get_or, drop, replicate, eqb, ltb}
+use Rattle.std.specs.Prelude.{ℕ, ◌+◌, ◌*◌, ◌-◌, ◌/◌, ◌%◌, ◌^◌, List, [], ◌∷◌, ◌++◌, Bool, cond, not, ◌&&◌, ◌||◌, length, get_or, drop, replicate, eqb, ltb, Result, Ok, Err}
 use Rattle.std.proofs.Math.Option.{Option, none, some}
 use Rattle.format.specs.declared.Refusal.{Refusal}
 use Rattle.format.specs.declared.Refusal.TheVariants.{Edition, FourCc, Short, NotDwords, Long, Reserved, Model, Program, Size, Room, ZeroLength, PastEnd, OperandCount, Layout, NoReading, OutputShort}
-use Rattle.format.specs.declared.Answer.{Answer}
-use Rattle.format.specs.declared.Answer.TheVariants.{Accepted, Refused}
+use Rattle.format.specs.declared.Accepted.{Accepted}
 use Rattle.format.specs.Dwords.{dword_of, dwords_of, bits}
 use Rattle.format.specs.Framing.{Framed, whole, zero_length, past_end, instruction, frame, ceiling}
 use Rattle.format.specs.Counts.{within}
@@ -138,9 +137,9 @@ unfoldable pub decode : ℕ → ℕ → List ℕ → Pools → Outcome
 decode edition four chunk p = unless (header edition four chunk) (unless (room chunk p) (body (ceiling edition) (dwords_of chunk)))
 
 -- the answer: the version token, instruction rows, operand rows and words
-unfoldable pub answer : Outcome → Answer
-answer (refused r) = Refused r
-answer (accepted version l) = Accepted version (length l) (parts_rows (all_parts l)) (length (parts_words (all_parts l)))
+unfoldable pub answer : Outcome → Result Accepted Refusal
+answer (refused r) = Err r
+answer (accepted version l) = Ok (record { version = version; instructions = length l; operands = parts_rows (all_parts l); words = length (parts_words (all_parts l)) })
 
 -- a pool afterwards: 1 to 10 leave it untouched; 11 to 14 fill it with zero; on success entries past those used are unchanged
 unfoldable pub after : (List Instruction → List ℕ) → Outcome → List ℕ → List ℕ
@@ -164,9 +163,9 @@ pub record Rows : Type 0 where
   pub pools : Pools
 
 -- what a caller has afterwards; a refusal's counts are 0
-abbrev pub told : Answer → Pools → Rows
-told (Accepted version i o w) p = record { version = version; instructions = i; operands = o; words = w; pools = p }
-told (Refused r) p = record { version = 0; instructions = 0; operands = 0; words = 0; pools = p }
+abbrev pub told : Result Accepted Refusal → Pools → Rows
+told (Ok a) p = record { version = a.version; instructions = a.instructions; operands = a.operands; words = a.words; pools = p }
+told (Err r) p = record { version = 0; instructions = 0; operands = 0; words = 0; pools = p }
 
 unfoldable pub reading : Outcome → Pools → Rows
 reading a p = told (answer a) (pools_after a p)

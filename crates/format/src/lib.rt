@@ -2,7 +2,7 @@
 #![tactic(auto)]
 
 // Why a chunk, or rows, are refused. A place is the byte offset of an instruction.
-#[derive(Clone, Copy, Drop)]
+#[derive(Clone, Copy, PartialEq, Eq, Drop)]
 pub enum Refusal {
     Edition,
     FourCc,
@@ -22,27 +22,23 @@ pub enum Refusal {
     OutputShort,
 }
 
-// What reading a chunk answers: its version token and the rows and words it holds.
-#[derive(Drop)]
-pub enum Answer {
-    Accepted {
-        version: u32,
-        instructions: u32,
-        operands: u32,
-        words: u32,
-    },
-    Refused(Refusal),
+// What is told of a chunk that was read: its version token and the rows and words it holds.
+#[derive(Clone, Copy, PartialEq, Eq, Drop)]
+pub struct Accepted {
+    pub version: u32,
+    pub instructions: u32,
+    pub operands: u32,
+    pub words: u32,
 }
+
+// What reading a chunk answers.
+pub type Answer = Result<Accepted, Refusal>;
 
 // What encoding answers: the chunk's size in bytes.
-#[derive(Drop)]
-pub enum Encoded {
-    Written { size: u32 },
-    Unwritten(Refusal),
-}
+pub type Encoded = Result<u32, Refusal>;
 
 // What a row shows.
-#[derive(Drop)]
+#[derive(Clone, Copy, Drop)]
 pub enum Shown {
     Factor(f32),
     Count(u32),
@@ -50,7 +46,7 @@ pub enum Shown {
 }
 
 // The texture offsets of a row.
-#[derive(Drop)]
+#[derive(Clone, Copy, PartialEq, Eq, Drop)]
 pub struct Offsets {
     pub u: i8,
     pub v: i8,
