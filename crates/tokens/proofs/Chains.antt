@@ -3,6 +3,7 @@ use Prim.Native.Nat.{ℕ, suc, ◌+◌, ◌-◌, ◌<◌, ◌≤◌}
 use mathlib.Core.Path.{◌≡◌, refl, sym, ◌∙◌, ap}
 use mathlib.Core.Bool.{Bool, true, false}
 use mathlib.Core.List.{List, [], ◌∷◌}
+use Rattle.std.specs.Prelude.{Some, None}
 use native.Mathlib.Numerals.{add-one}
 use native.Mathlib.Omega.{arith}
 use lib.ListN.{length, drop, get_or, drop_of_length-le}
@@ -10,45 +11,47 @@ use lib.Seq.{drop-cons, slice, slice_empty, slice-cons, length-slice}
 use Rattle.format.specs.Dwords.{follows, Got, malformed, got, then, give, chain}
 use Rattle.format.specs.Operands.{modifiers, exact_extension}
 use Rattle.tokens.specs.Chains.{ends}
-use Rattle.tokens.specs.declared.Skip.TheVariants.{To, Off}
 
-done : (at : ℕ) (l : List ℕ) → To at ≡ ends at (chain false l)
+none_first : (at : ℕ) (l : List ℕ) → Some at ≡ ends at (chain false l)
 unfolding chain
-done at [] = ap To (omega arith)
-done at (x ∷ l) = ap To (omega arith)
+none_first at [] = ap Some (omega arith)
+none_first at (x ∷ l) = ap Some (omega arith)
 
-off : (ds : List ℕ) (at : ℕ) → length ds ≤ at → Off ≡ ends at (chain true (drop at ds))
+pub not_begun : (ds : List ℕ) (from : ℕ) {first : Bool} → first ≡ false → Some from ≡ ends from (chain first (drop from ds))
+not_begun ds from e = rw e (none_first from (drop from ds))
+
+off : (ds : List ℕ) (at : ℕ) → length ds ≤ at → None ≡ ends at (chain true (drop at ds))
 unfolding chain
 off ds at h = rw (drop_of_length-le ds h)
 
 longer : (at x : ℕ) (c : Got (List ℕ)) → ends at (then c (λ l. give (x ∷ l))) ≡ ends (at + 1) c
 longer at x malformed = refl
-longer at x (got e r) = ap To (omega arith)
+longer at x (got e r) = ap Some (omega arith)
 
 more : (ds : List ℕ) (at : ℕ) → at < length ds → ends at (chain true (drop at ds)) ≡ ends (at + 1) (chain (follows (get_or ds at 0)) (drop (at + 1) ds))
 unfolding chain
 more ds at h = rw (add-one at, drop-cons ds at 0 h) (longer at (get_or ds at 0) (chain (follows (get_or ds at 0)) (drop (suc at) ds)) ∙ rw (add-one at))
 
 -- what holds at the loop's head: the chain from here ends where the whole does
-pub record Going (ds : List ℕ) (from n at : ℕ) (first m : Bool) : Type 0 where
-  pub count : n ≡ length ds
-  pub same : ends from (chain first (drop from ds)) ≡ ends at (chain m (drop at ds))
+pub record Going (ds : List ℕ) (from at : ℕ) (first : Bool) : Type 0 where
+  pub same : ends from (chain first (drop from ds)) ≡ ends at (chain true (drop at ds))
 
-module _ {ds : List ℕ} {from n at : ℕ} {first m : Bool} (g : Going ds from n at first m) where
-  pub ran_off : m ≡ true → n ≤ at → Off ≡ ends from (chain first (drop from ds))
-  ran_off e h = off ds at (omega (arith, g.count)) ∙ ap (λ (b : Bool). ends at (chain b (drop at ds))) (sym e) ∙ sym g.same
+pub begun : (ds : List ℕ) (from : ℕ) {first : Bool} → first ≡ true → Going ds from from first
+begun ds from e = record { same = ap (λ (b : Bool). ends from (chain b (drop from ds))) e }
 
-  pub goes_on : m ≡ true → at < n → (x : ℕ) → x ≡ get_or ds at 0 → (m' : Bool) → m' ≡ follows x → Going ds from n (at + 1) first m'
-  goes_on e h x ex m' em =
-      record {
-        count = g.count;
-        same =
-            g.same ∙ ap (λ (b : Bool). ends at (chain b (drop at ds))) e ∙ more ds at (omega (arith, g.count))
-            ∙ ap (λ (b : Bool). ends (at + 1) (chain b (drop (at + 1) ds))) (ap follows (sym ex) ∙ sym em);
-      }
+module _ {ds : List ℕ} {from at : ℕ} {first : Bool} (g : Going ds from at first) where
+  pub ran_off : length ds ≤ at → None ≡ ends from (chain first (drop from ds))
+  ran_off h = off ds at h ∙ sym g.same
 
-  pub ended : m ≡ false → To at ≡ ends from (chain first (drop from ds))
-  ended e = done at (drop at ds) ∙ ap (λ (b : Bool). ends at (chain b (drop at ds))) (sym e) ∙ sym g.same
+  module _ (h : at < length ds) {x : ℕ} (ex : x ≡ get_or ds at 0) {m : Bool} (em : m ≡ follows x) where
+    step : {b : Bool} → m ≡ b → ends from (chain first (drop from ds)) ≡ ends (at + 1) (chain b (drop (at + 1) ds))
+    step e = g.same ∙ more ds at h ∙ ap (λ (b : Bool). ends (at + 1) (chain b (drop (at + 1) ds))) (ap follows (sym ex) ∙ sym em ∙ e)
+
+    pub goes_on : m ≡ true → Going ds from (at + 1) first
+    goes_on e = record { same = step e }
+
+    pub ended : m ≡ false → Some (at + 1) ≡ ends from (chain first (drop from ds))
+    ended e = none_first (at + 1) (drop (at + 1) ds) ∙ sym (step e)
 
 -- extensions between two places
 module _ (ds : List ℕ) (from to : ℕ) where

@@ -6,10 +6,10 @@ use mathlib.Core.List.{List, [], ◌∷◌, ◌++◌}
 use native.Mathlib.Omega.{arith}
 use lib.ListN.{length, get_or, take, drop, length-append, length-drop}
 use lib.Seq.{drop-cons, drop-append_seam, take-append_seam, drop_at, drop-drop, take-add, length-take-le, slice}
+use Rattle.std.specs.Prelude.{Some, None}
 use Rattle.format.specs.Dwords.{Got, malformed, got, dword, some, chain}
 use Rattle.format.proofs.Dwords.{All, met, impossible, Linked, chain_linked}
 use Rattle.tokens.specs.Chains.{ends}
-use Rattle.tokens.specs.declared.Skip.TheVariants.{To, Off}
 
 pub dword_at_lem : (ds : List ℕ) (at : ℕ) → at < length ds → dword (drop at ds) ≡ got (get_or ds at 0) (drop (suc at) ds)
 unfolding dword
@@ -65,10 +65,10 @@ pub record Passed (b : Bool) (ds : List ℕ) (at p : ℕ) : Type 0 where
   pub from : at ≤ p
   pub within : p ≤ length ds
 
-pub passed : (b : Bool) (ds : List ℕ) (at p : ℕ) → at ≤ length ds → To p ≡ ends at (chain b (drop at ds)) → Passed b ds at p
+pub passed : (b : Bool) (ds : List ℕ) (at p : ℕ) → at ≤ length ds → Some p ≡ ends at (chain b (drop at ds)) → Passed b ds at p
 passed b ds at p h e = go (chain b (drop at ds)) refl (chain_linked b (drop at ds)) e
   where
-    go : (g : Got (List ℕ)) → chain b (drop at ds) ≡ g → All (λ x r. (x ++ r ≡ drop at ds) × Linked b x) g → To p ≡ ends at g → Passed b ds at p
+    go : (g : Got (List ℕ)) → chain b (drop at ds) ≡ g → All (λ x r. (x ++ r ≡ drop at ds) × Linked b x) g → Some p ≡ ends at g → Passed b ds at p
     go malformed q a z = impossible (cc)
     go (got x r) q (met y) z =
         let ep : at + length x ≡ p = cc in
@@ -78,6 +78,6 @@ passed b ds at p h e = go (chain b (drop at ds)) refl (chain_linked b (drop at d
           within = omega (arith, read_within ds x r at y.0 h);
         }
 
-pub ran_off : (at : ℕ) (g : Got (List ℕ)) → Off ≡ ends at g → g ≡ malformed
+pub ran_off : (at : ℕ) (g : Got (List ℕ)) → None ≡ ends at g → g ≡ malformed
 ran_off at malformed e = refl
 ran_off at (got x r) e = cc

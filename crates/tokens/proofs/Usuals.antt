@@ -8,6 +8,7 @@ use lib.ListN.{get_or-eq_default}
 use lib.Dec.{eqb, ltb}
 use lib.Bits.{bit_and, and_block, and_mask, and_zero_r, and_le_l}
 use borrow.Author.Tests.{eqb-true, eqb-false, eq-eqb, ne_eqb, ltb-true, ltb-false, lt-ltb, le-ltb}
+use Rattle.std.specs.Prelude.{Some, None}
 use Rattle.format.specs.Counts.{numbers}
 use Rattle.format.specs.Dwords.{bits_from}
 use Rattle.format.specs.Operands.{dimension, form, immediate, immediates, reprs, exact_dword}
@@ -132,20 +133,20 @@ stray_fits t m e = rw e (ltb-true _ _ (below (λ k. ltb (stray_bits k) 0xFFC0_10
 
 -- ---- how long its operand is
 module _ (t : ℕ) (b : Bool) (eb : b ≡ (ltb t 0x400000 && exact_dword t)) where
-  pub length_other : b ≡ false → 0 ≡ usual_length t
+  pub length_other : b ≡ false → None ≡ usual_length t
   unfolding usual_length
   length_other e = rw (sym eb ∙ e)
 
-  pub length_indices : b ≡ true → (i : Bool) → i ≡ immediate t → i ≡ false → 1 + t / 0x100000 ≡ usual_length t
+  pub length_indices : b ≡ true → (i : Bool) → i ≡ immediate t → i ≡ false → Some (1 + t / 0x100000) ≡ usual_length t
   unfolding usual_length
   length_indices e i ei ni = rw (sym eb ∙ e, sym ei ∙ ni)
 
   module _ (e : b ≡ true) (i : Bool) (ei : i ≡ immediate t) (yi : i ≡ true) where
-    pub length_immediates : t < 0x100000 → (n : ℕ) → n ≡ immediates t → 1 + n ≡ usual_length t
+    pub length_immediates : t < 0x100000 → (n : ℕ) → n ≡ immediates t → Some (1 + n) ≡ usual_length t
     unfolding usual_length
     length_immediates l n en = rw (sym eb ∙ e, sym ei ∙ yi, lt-ltb t 0x100000 l, en)
 
-    pub length_malformed : 0x100000 ≤ t → 0 ≡ usual_length t
+    pub length_malformed : 0x100000 ≤ t → None ≡ usual_length t
     unfolding usual_length
     length_malformed l = rw (sym eb ∙ e, sym ei ∙ yi, le-ltb t 0x100000 l)
 

@@ -4,18 +4,11 @@
 ghost use Rattle.std.specs.Prelude.{◌≡◌, [], ◌∷◌, ℕ, ◌+◌, ◌*◌, ◌-◌, ◌/◌, ◌^◌, ◌<◌, ◌≤◌, length, get_or, drop, ◌&&◌, eqb, ltb};
 ghost use Rattle.std.proofs.Math.Seq.{slice};
 ghost use Rattle.format.specs.Dwords as d;
-ghost use Rattle.format.specs.Dwords.{dword_of, dwords_of};
+ghost use Rattle.format.specs.Dwords.{dwords_of};
 ghost use Rattle.format.specs.Operands as op;
 ghost use Rattle.tokens.specs.Chains.{ends};
 ghost use Rattle.tokens.specs.Low.{allowed_bits};
 ghost use Rattle.tokens.specs.Usuals.{stray_bits, usual_length};
-
-// Where a chain of extensions ends; or it runs off the end of its part.
-#[derive(Drop)]
-pub enum Skip {
-    To(usize),
-    Off,
-}
 
 // How many dwords a part has.
 pub fn dwords(part: &[u8]) -> usize
@@ -24,26 +17,13 @@ pub fn dwords(part: &[u8]) -> usize
     part.len() / 4
 }
 
-fn wide(x: u8) -> u32
-    ensures { result ≡ x }
-{
-    x as u32
-}
-
-// Four bytes, the lowest first.
-fn join(a: u8, b: u8, c: u8, d: u8) -> u32
-    ensures { result ≡ dword_of a b c d }
-{
-    wide(a) + wide(b) * 256 + wide(c) * 65536 + wide(d) * 16777216
-}
-
 // The dword at a place.
 pub fn dword(part: &[u8], k: usize) -> u32
     requires { k < length (dwords_of part.now) }
     ensures { result ≡ get_or (dwords_of part.now) k 0 }
 {
     let i = k * 4;
-    join(part[i], part[i + 1], part[i + 2], part[i + 3])
+    u32::from_le_bytes([part[i], part[i + 1], part[i + 2], part[i + 3]])
 }
 
 // Bit 31: another dword follows.
@@ -220,20 +200,20 @@ pub fn short(t: u32) -> bool
     t & (stray(t % 16) + 0x30_0000) == 0x10_0000
 }
 
-// How many dwords an operand has whose dword is exact and without extensions and representations; 0: it is another, or malformed.
-pub fn usual_length(t: u32) -> usize
+// How many dwords an operand has whose dword is exact and without extensions and representations; None: it is another, or malformed.
+pub fn usual_length(t: u32) -> Option<usize>
     ensures { result ≡ usual_length t }
 {
     if !usual(t) {
-        return 0;
+        return None;
     }
     if !immediate(t) {
-        return 1 + (t / 0x10_0000) as usize;
+        return Some(1 + (t / 0x10_0000) as usize);
     }
     if t < 0x10_0000 {
-        return 1 + immediates(t);
+        return Some(1 + immediates(t));
     }
-    0
+    None
 }
 
 // The modifiers that an extension holds.
@@ -251,21 +231,19 @@ pub fn exact_extension(x: u32) -> bool
         && x == 1 + x / 0x40 % 4 * 0x40 + x / 0x4000 % 8 * 0x4000 + x / 0x2_0000 % 2 * 0x2_0000
 }
 
-// Passes the chain of extension dwords from a place on, if there is one.
-pub fn chain(part: &[u8], from: usize, first: bool) -> Skip
+// The place behind the chain of extension dwords from a place on, if there is one; None: the chain runs off the end of its part.
+pub fn chain(part: &[u8], from: usize, first: bool) -> Option<usize>
     ensures { result ≡ ends from (d.chain first (drop from (dwords_of part.now))) }
 {
-    let n = dwords(part);
-    let mut at = from;
-    let mut more = first;
-    while more {
-        if n <= at {
-            return Skip::Off;
-        }
-        more = follows(dword(part, at));
-        at += 1;
+    if !first {
+        return Some(from);
     }
-    Skip::To(at)
+    for at in from..dwords(part) {
+        if !follows(dword(part, at)) {
+            return Some(at + 1);
+        }
+    }
+    None
 }
 
 // The modifiers of an operand's extensions, which stand between two places.

@@ -1,22 +1,18 @@
-use mathlib.Core.Path.{refl}
 use native.Mathlib.Omega.{arith}
-use Rattle.tokens.proofs.Chains.{ran_off, goes_on, ended}
+use Rattle.tokens.proofs.Chains.{not_begun, begun, ran_off, goes_on, ended}
 use Rattle.tokens.proofs.chain.Goals as goal
 
-pub loop-more-init : goal.loop-more-init
-loop-more-init c = record { count = c.dwords-n.ensures; same = refl }
+pub returns-then-not-first : goal.returns-then-not-first
+returns-then-not-first c = not_begun _ _ c.if-not-first.true
 
-pub returns-then-n-at : goal.returns-then-n-at
-returns-then-n-at c = ran_off c.loop-more.invariant c.loop-more-test.true c.if-n-at.true
+pub loop-at-init : goal.loop-at-init
+loop-at-init c = begun _ _ c.if-not-first.false
 
-pub dword-requires : goal.dword-requires
-dword-requires c = omega (arith, c.loop-more.invariant)
+pub returns-then-not-follows : goal.returns-then-not-follows
+returns-then-not-follows c = ended c.loop-at.invariant (omega arith) c.dword.ensures c.follows.ensures c.if-not-follows.true
 
-pub loop-more-smaller : goal.loop-more-smaller
-loop-more-smaller c = omega arith
-
-pub loop-more-preserved : goal.loop-more-preserved
-loop-more-preserved c = goes_on c.loop-more.invariant c.loop-more-test.true (omega arith) _ c.dword.ensures _ c.follows-more.ensures
+pub loop-at-preserved : goal.loop-at-preserved
+loop-at-preserved c = goes_on c.loop-at.invariant (omega arith) c.dword.ensures c.follows.ensures c.if-not-follows.false
 
 pub returns : goal.returns
-returns c = ended c.loop-more.invariant c.loop-more-test.false
+returns c = ran_off c.loop-at.invariant (omega arith)

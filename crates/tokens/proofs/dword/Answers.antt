@@ -29,4 +29,4 @@ pub bounds-part-i-4 : goal.bounds-part-i-4
 bounds-part-i-4 c = omega (arith, length_dwords c.args.part.now)
 
 pub returns : goal.returns
-returns c = let a = c.args in c.join.ensures ∙ sym (get_or_dwords a.part.now a.k c.requires)
+returns c = let a = c.args in c.from_le_bytes.ensures ∙ sym (get_or_dwords a.part.now a.k c.requires)
