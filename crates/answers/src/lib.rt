@@ -35,21 +35,10 @@ pub fn place(r: Refusal) -> u32
     ensures { result ≡ h.place r }
 {
     match r {
-        Refusal::Edition => 0,
-        Refusal::FourCc => 0,
-        Refusal::Short => 0,
-        Refusal::NotDwords => 0,
-        Refusal::Long => 0,
-        Refusal::Reserved => 0,
-        Refusal::Model => 0,
-        Refusal::Program => 0,
-        Refusal::Size => 0,
-        Refusal::Room => 0,
-        Refusal::ZeroLength { at } => at,
-        Refusal::PastEnd { at } => at,
-        Refusal::OperandCount { at } => at,
-        Refusal::Layout { at } => at,
-        Refusal::NoReading => 0,
-        Refusal::OutputShort => 0,
+        Refusal::ZeroLength { at }
+        | Refusal::PastEnd { at }
+        | Refusal::OperandCount { at }
+        | Refusal::Layout { at } => at,
+        _ => 0,
     }
 }

@@ -1,3 +1,2 @@
-pub mod Checks
 pub mod Room
 pub mod Answers

@@ -18,13 +18,6 @@ const SHEX: u32 = 0x5845_4853;
 
 const SHDR: u32 = 0x5244_4853;
 
-// What the checks of a header answer: its version token, or the refusal.
-#[derive(Drop)]
-pub enum Checked {
-    Passed { version: u32 },
-    Refused(Refusal),
-}
-
 // Whether a FourCC is SHEX or SHDR.
 fn is_shader(four: u32) -> bool
     ensures { result ≡ within four (h.SHEX ∷ h.SHDR ∷ []) }
@@ -54,50 +47,53 @@ fn is_model(version: u32) -> bool
 }
 
 // Whether the model is 5.1.
+#[tactic(auto, unfolding(format::specs::Refusals::is_model51))]
 pub fn is_model51(version: u32) -> bool
     ensures { result ≡ h.is_model51 version }
 {
     major(version) == 5 && minor(version) == 1
 }
 
-// Checks 6 to 9, of the size and the first two dwords.
-pub fn decode_version(size: usize, version: u32, second: u32) -> Checked
+// Checks 6 to 9, of the size and the first two dwords: the version token, or the first refusal.
+#[tactic(auto, unfolding(crate::specs::Header::version_of, format::specs::Refusals::first_of))]
+pub fn decode_version(size: usize, version: u32, second: u32) -> Result<u32, Refusal>
     ensures { result ≡ version_of size version second }
 {
     if version / 256 % 256 != 0 {
-        return Checked::Refused(Refusal::Reserved);
+        return Err(Refusal::Reserved);
     }
     if !is_model(version) {
-        return Checked::Refused(Refusal::Model);
+        return Err(Refusal::Model);
     }
     if 5 < version / 65536 % 65536 {
-        return Checked::Refused(Refusal::Program);
+        return Err(Refusal::Program);
     }
     if second as usize * 4 != size {
-        return Checked::Refused(Refusal::Size);
+        return Err(Refusal::Size);
     }
-    Checked::Passed { version }
+    Ok(version)
 }
 
 // Checks 1 to 9, in order: the version token, or the first refusal.
-pub fn decode_header(chunk: &[u8], four: u32, edition: u32) -> Checked
+#[tactic(auto, using(format::proofs::Dwords::length_dwords), unfolding(crate::specs::Header::header_of, crate::specs::Header::version_of, format::specs::Refusals::header, format::specs::Refusals::first_of))]
+pub fn decode_header(chunk: &[u8], four: u32, edition: u32) -> Result<u32, Refusal>
     ensures { result ≡ header_of edition four chunk.now }
 {
     let size = chunk.len();
     if 3 < edition {
-        return Checked::Refused(Refusal::Edition);
+        return Err(Refusal::Edition);
     }
     if !is_shader(four) {
-        return Checked::Refused(Refusal::FourCc);
+        return Err(Refusal::FourCc);
     }
     if size < 8 {
-        return Checked::Refused(Refusal::Short);
+        return Err(Refusal::Short);
     }
     if size % 4 != 0 {
-        return Checked::Refused(Refusal::NotDwords);
+        return Err(Refusal::NotDwords);
     }
     if 1_048_576 < size {
-        return Checked::Refused(Refusal::Long);
+        return Err(Refusal::Long);
     }
     decode_version(size, dword(chunk, 0), dword(chunk, 1))
 }
@@ -106,36 +102,27 @@ pub fn decode_header(chunk: &[u8], four: u32, edition: u32) -> Checked
 fn payload(size: usize) -> usize
     ensures { result ≡ size / 4 - 2 }
 {
-    let n = size / 4;
-    if n < 2 { 0 } else { n - 2 }
+    (size / 4).saturating_sub(2)
 }
 
 // Check 10: whether pools of these lengths have room, 16 words to a row, for a chunk of so many bytes.
+#[tactic(auto, unfolding(crate::specs::Header::has_room))]
 pub fn has_room(size: usize, instructions: usize, operands: usize, words: usize) -> bool
     ensures { result ≡ has_room size instructions operands words }
 {
     let m = payload(size);
-    if instructions / 16 < m {
-        return false;
-    }
-    if operands / 16 < m {
-        return false;
-    }
-    m <= words
+    m <= instructions / 16 && m <= operands / 16 && m <= words
 }
 
 // Sets every word of a pool to 0.
 pub fn clear(pool: &mut [u32])
     ensures { pool.new ≡ replicate (length pool.old) 0 }
 {
-    let mut i: usize = 0;
-    while i < pool.len() {
-        pool[i] = 0;
-        i += 1;
-    }
+    pool.fill(0);
 }
 
 // The codes that an edition knows are below this.
+#[tactic(auto, unfolding(format::specs::Framing::ceiling))]
 pub fn ceiling(edition: u32) -> u32
     ensures { result ≡ f.ceiling edition }
 {
@@ -149,6 +136,7 @@ pub fn ceiling(edition: u32) -> u32
 }
 
 // The length in dwords of the instruction at a place; 0 where the dword that has it is missing.
+#[tactic(auto, unfolding(format::specs::Framing::length_of))]
 pub fn instruction_length(chunk: &[u8], at: usize) -> u32
     requires { at < length (dwords_of chunk.now) }
     ensures { result ≡ f.length_of (get_or (dwords_of chunk.now) at 0) (drop (suc at) (dwords_of chunk.now)) }
