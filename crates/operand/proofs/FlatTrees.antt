@@ -13,8 +13,9 @@ use Rattle.format.specs.Operands.{Tree, none, plain, node, dimension, reprs, rep
 use Rattle.format.specs.Rows.{tree_rows, tree_words}
 use Rattle.format.proofs.Dwords.{impossible}
 use Rattle.tokens.proofs.Places.{some_length}
-use Rattle.operand.specs.Measures.{measured, Stands, Flat, AnyDepth}
-use Rattle.operand.specs.declared.Measured.TheVariants.{Read, Malformed}
+use Rattle.std.specs.Prelude.{None}
+use Rattle.operand.specs.Standing.{Stands}
+use Rattle.operand.specs.Measures.{read, measured, Flat, AnyDepth}
 use Rattle.operand.proofs.Fronts.{and_trues}
 
 -- the tree of a dword t with the extensions e and so many indices of one dword
@@ -97,10 +98,10 @@ module _ (t : ℕ) (f : Flat t) where
 
 -- the code's answers
 module _ {ds : List ℕ} {at t b : ℕ} {x : Bool} (s : Stands ds at t b x) (f : Flat t) (d : ℕ) (ed : d ≡ dimension t) (n : ℕ) (en : n ≡ length ds) where
-  pub measured_short : n - b < d → AnyDepth Malformed t (slice (at + 1) b ds) (drop b ds)
+  pub measured_short : n - b < d → AnyDepth None t (slice (at + 1) b ds) (drop b ds)
   measured_short h p = sym (ap measured (flat_short t f p (slice (at + 1) b ds) ds b (omega arith)))
 
-  pub measured_flat : d ≤ n - b → AnyDepth (Read 1 d (b - at + d) x) t (slice (at + 1) b ds) (drop b ds)
+  pub measured_flat : d ≤ n - b → AnyDepth (read 1 d (b - at + d) x) t (slice (at + 1) b ds) (drop b ds)
   unfolding tree_rows
   measured_flat h p =
       let e : List ℕ = slice (at + 1) b ds in
@@ -110,4 +111,4 @@ module _ {ds : List ℕ} {at t b : ℕ} {x : Bool} (s : Stands ds at t b x) (f :
       let k : length ws ≤ 3 = omega arith in
       let w : d ≡ length (tree_words (flat_tree t e ws)) = ed ∙ sym lw ∙ sym (ap length (flat_words t e ws k)) in
       let n : b - at + d ≡ length (dwords (flat_tree t e ws)) = omega (arith, flat_dwords t e ws k, s.from) in
-      (λ i. Read 1 (w i) (n i) ((s.good ∙ flat_exact t e ws) i)) ∙ sym (ap measured (flat_read t f p e ds b (omega arith)))
+      (λ i. read 1 (w i) (n i) ((s.good ∙ flat_exact t e ws) i)) ∙ sym (ap measured (flat_read t f p e ds b (omega arith)))

@@ -12,8 +12,9 @@ use Rattle.format.proofs.Dwords.{met, Makes, impossible}
 use Rattle.format.proofs.Operands.{makes_operand}
 use Rattle.format.proofs.Rows.{tree_fits}
 use Rattle.tokens.proofs.Places.{left_at, read_within}
+use Rattle.std.specs.Prelude.{Some, None}
 use Rattle.operand.specs.Measures.{measured}
-use Rattle.operand.specs.declared.Measured.TheVariants.{Read, Malformed}
+use Rattle.operand.specs.declared.Measured.{Measured}
 
 -- at a place a tree was read that needs r rows and w words and takes d dwords
 pub record Seen (g : Got Tree) (ds : List ℕ) (at r w d : ℕ) (x : Bool) : Type 0 where
@@ -26,12 +27,12 @@ pub record Seen (g : Got Tree) (ds : List ℕ) (at r w d : ℕ) (x : Bool) : Typ
   pub fewer : r + w ≤ d
   pub within : at + d ≤ length ds
 
-pub seen : (g : Got Tree) (ds : List ℕ) (at : ℕ) → Makes dwords (drop at ds) g → at ≤ length ds → (r w d : ℕ) (x : Bool) → Read r w d x ≡ measured g → Seen g ds at r w d x
-seen malformed ds at m h r w d x e = impossible (cc)
-seen (got t s) ds at (met p) h r w d x e =
-    let er : tree_rows t ≡ r = cc in
-    let ew : length (tree_words t) ≡ w = cc in
-    let ed : length (dwords t) ≡ d = cc in
+pub seen : (g : Got Tree) (ds : List ℕ) (at : ℕ) → Makes dwords (drop at ds) g → at ≤ length ds → (m : Measured) → Some m ≡ measured g → Seen g ds at m.rows m.words m.dwords m.exact
+seen malformed ds at k h m e = impossible (cc)
+seen (got t s) ds at (met p) h m e =
+    let er : tree_rows t ≡ m.rows = cc in
+    let ew : length (tree_words t) ≡ m.words = cc in
+    let ed : length (dwords t) ≡ m.dwords = cc in
     record {
       tree = t;
       is = ap (got t) (left_at ds (dwords t) s at p ∙ ap (λ (k : ℕ). drop (at + k) ds) ed);
@@ -43,9 +44,9 @@ seen (got t s) ds at (met p) h r w d x e =
       within = omega (arith, read_within ds (dwords t) s at p h);
     }
 
-pub lost : (g : Got Tree) → Malformed ≡ measured g → g ≡ malformed
+pub lost : (g : Got Tree) → None ≡ measured g → g ≡ malformed
 lost malformed e = refl
 lost (got t r) e = cc
 
-pub operand_seen : (k : ℕ) (ds : List ℕ) (at : ℕ) → at ≤ length ds → (r w d : ℕ) (x : Bool) → Read r w d x ≡ measured (operand k (drop at ds)) → Seen (operand k (drop at ds)) ds at r w d x
-operand_seen k ds at h r w d x e = seen (operand k (drop at ds)) ds at (makes_operand k (drop at ds)) h r w d x e
+pub operand_seen : (k : ℕ) (ds : List ℕ) (at : ℕ) → at ≤ length ds → (m : Measured) → Some m ≡ measured (operand k (drop at ds)) → Seen (operand k (drop at ds)) ds at m.rows m.words m.dwords m.exact
+operand_seen k ds at h m e = seen (operand k (drop at ds)) ds at (makes_operand k (drop at ds)) h m e

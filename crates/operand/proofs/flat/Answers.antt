@@ -1,8 +1,0 @@
-use Rattle.operand.proofs.FlatTrees.{measured_short, measured_flat}
-use Rattle.operand.proofs.flat.Goals as goal
-
-pub returns-then-left-indices : goal.returns-then-left-indices
-returns-then-left-indices c = measured_short c.requires.0 c.requires.1 _ c.dimension-indices.ensures _ c.dwords.ensures c.if-left-indices.true
-
-pub returns : goal.returns
-returns c = measured_flat c.requires.0 c.requires.1 _ c.dimension-indices.ensures _ c.dwords.ensures c.if-left-indices.false
