@@ -15,7 +15,6 @@ use Rattle.format.specs.Operands.{Tree, immediate, immediates, dimension, read_i
 use Rattle.format.specs.Rows.{tree_rows, tree_words}
 use Rattle.format.proofs.Dwords.{impossible}
 use Rattle.tokens.specs.Chains.{ends}
-use Rattle.tokens.specs.declared.Skip.TheVariants.{To, Off}
 use Rattle.tokens.proofs.Places.{dword_at_lem, dword_end, some_whole, some_length, some_short, Passed, passed, ran_off}
 use Rattle.std.specs.Prelude.{Option, Some, None}
 use Rattle.std.proofs.lemmas.Option.{none-some}
@@ -33,9 +32,9 @@ pub no_chain : (ds : List ℕ) (at : ℕ) → at ≤ length ds → Passed false 
 unfolding chain
 no_chain ds at h = passed false ds at at h (go (drop at ds))
   where
-    go : (l : List ℕ) → To at ≡ ends at (chain false l)
-    go [] = ap To (sym (add-zero at))
-    go (x ∷ l) = ap To (sym (add-zero at))
+    go : (l : List ℕ) → Some at ≡ ends at (chain false l)
+    go [] = ap Some (sym (add-zero at))
+    go (x ∷ l) = ap Some (sym (add-zero at))
 
 pub and-true : (a : Bool) → (a && true) ≡ a
 and-true true = refl
@@ -87,10 +86,10 @@ module _ (left : ℕ) (ds : List ℕ) (at : ℕ) where
 
   -- the code's steps
   module _ (h : left ≡ 0 → ⊥) (l : at < length ds) (t : ℕ) (et : t ≡ get_or ds at 0) (m : Bool) (em : m ≡ follows t) where
-    pub front_off : Off ≡ ends (at + 1) (chain m (drop (at + 1) ds)) → None ≡ fronted at (front left (drop at ds))
+    pub front_off : None ≡ ends (at + 1) (chain m (drop (at + 1) ds)) → None ≡ fronted at (front left (drop at ds))
     front_off e = sym (ap (fronted at) (front_some h l) ∙ rw (← et, ← em, ran_off (at + 1) (chain m (drop (at + 1) ds)) e))
 
-    pub front_passed : (b : ℕ) → To b ≡ ends (at + 1) (chain m (drop (at + 1) ds)) → Passed m ds (at + 1) b
+    pub front_passed : (b : ℕ) → Some b ≡ ends (at + 1) (chain m (drop (at + 1) ds)) → Passed m ds (at + 1) b
     front_passed b e = passed m ds (at + 1) b (omega arith) e
 
     pub front_read : (b : ℕ) → Passed m ds (at + 1) b → (x y z : Bool) → x ≡ exact_dword t → y ≡ exact_extension (slice (at + 1) b ds) → z ≡ (x && y) → Some (t, b, z) ≡ fronted at (front left (drop at ds))
@@ -124,7 +123,7 @@ module _ (left : ℕ) (ds : List ℕ) (at : ℕ) where
       go h l (got y r) q z =
           let et : v.0 ≡ get_or ds at 0 = cc in
           let eb : v.1 ≡ at + 1 + length y = cc in
-          let w = passed (follows (get_or ds at 0)) ds (at + 1) v.1 (omega arith) (ap To eb ∙ ap (ends (at + 1)) (sym q)) in
+          let w = passed (follows (get_or ds at 0)) ds (at + 1) v.1 (omega arith) (ap Some eb ∙ ap (ends (at + 1)) (sym q)) in
           let ey : y ≡ slice (at + 1) v.1 ds = cc (q, w.is) in
           record {
             deep = omega arith;

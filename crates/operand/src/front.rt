@@ -6,7 +6,6 @@ ghost use Rattle.format.specs.Operands as op;
 ghost use Rattle.operand.specs.Standing.{Stands};
 
 use super::{Measured, index};
-use tokens::Skip;
 
 // The front of an operand that stands at a place of its part: its dword, the place behind its extensions, and whether
 // both are exact.
@@ -35,9 +34,7 @@ impl<'a> Front<'a> {
             return None;
         }
         let token = tokens::dword(part, at);
-        let Skip::To(body) = tokens::chain(part, at + 1, tokens::follows(token)) else {
-            return None;
-        };
+        let body = tokens::chain(part, at + 1, tokens::follows(token))?;
         let exact = tokens::exact_dword(token) & tokens::exact_extensions(part, at + 1, body);
         Some(Front {
             part,
