@@ -20,7 +20,7 @@ divides w h = rw (shifted w h) (pow_pos w)
 
 module _ (x : Shape) (t : ℕ) (h : Sound x) where
   exact : (t / 2 ^ x.first % 2 ^ x.width * 2 ^ (x.first - 11)) % 4294967296 ≡ t / 2 ^ x.first % 2 ^ x.width * 2 ^ (x.first - 11)
-  exact = shl_exact x.width (x.first - 11) 32 (mod-lt _ (pow_pos x.width)) (omega (arith, h.bits_from_lem, h.bits_to))
+  exact = shl_exact x.width (x.first - 11) 32 (mod-lt _ (pow_pos x.width)) (omega (arith, h.bits_from, h.bits_to))
 
   pub value : t / 2 ^ x.first % 2 ^ x.width * 2 ^ (x.first - 11) ≡ field_in (field_of x) t
   unfolding field_in field_of
@@ -41,7 +41,7 @@ module _ (x : Shape) (t : ℕ) (h : Sound x) where
 
   -- a token's field
   pub by_shifts : (t / 2 ^ x.first % ((1 * 2 ^ x.width) % 4294967296) * 2 ^ (x.first - 11)) % 4294967296 ≡ field_in (field_of x) t
-  by_shifts = rw (shifted x.width (omega (arith, h.bits_from_lem, h.bits_to))) (exact ∙ value)
+  by_shifts = rw (shifted x.width (omega (arith, h.bits_from, h.bits_to))) (exact ∙ value)
 
   -- its bounded bits
   pub unbounded : x.bounded ≡ 0 → true ≡ in_bounds (field_of x) t
@@ -57,4 +57,4 @@ module _ (x : Shape) (t : ℕ) (h : Sound x) where
   bounds n =
       let w : x.width ≡ 0 → ⊥ = λ e. n (omega (arith, h.bounded)) in
       let k : 10 + x.bounded + 1 - 11 ≡ x.bounded = omega arith in
-      rw (shifted x.bounded (omega (arith, h.bits_from_lem, h.bits_to, h.bounded)), ne_eqb x.width 0 w, ne_eqb x.bounded 0 n, k)
+      rw (shifted x.bounded (omega (arith, h.bits_from, h.bits_to, h.bounded)), ne_eqb x.width 0 w, ne_eqb x.bounded 0 n, k)

@@ -11,6 +11,7 @@ use lib.Dec.{eqb, leb, ltb}
 use lib.ListN.{get_or, take, drop}
 use types.Run.{OneOf}
 use borrow.Author.Tests.{eqb-true, eqb-false, eq-eqb, ne_eqb, leb-true, leb-false, le-leb, lt-leb, lt-ltb, le-ltb}
+use Rattle.std.specs.Prelude.{Some, None}
 use Rattle.format.specs.Counts.{numbers, within, operand_counts, line_of, operand_count}
 use Rattle.format.proofs.Dwords.{impossible}
 use Rattle.layouts.specs.Shapes.{counted}
@@ -155,7 +156,7 @@ no_keys (suc n) (k ∷ ks) c p q = go (eqb c k) p (λ r. no_keys n ks c r q)
     go false p f = f p
 
 -- a key among codes that all have k operands
-pub by_key : (ks : List ℕ) (c k : ℕ) → map operand_count ks ≡ map (λ x. some k) ks → OneOf ks c → k ≡ counted (operand_count c)
+pub by_key : (ks : List ℕ) (c k : ℕ) → map operand_count ks ≡ map (λ x. some k) ks → OneOf ks c → Some k ≡ counted (operand_count c)
 by_key ks c k e h = sym (ap counted (member operand_count (λ x. some k) ks e c (a_key ks c h)))
 
 -- the even codes of a line, and the odd ones
@@ -169,7 +170,7 @@ odd = passing (λ x. eqb (x % 2) 1)
 pub by_no_keys : (c : ℕ) → within c (even (line 0)) ≡ false → within c (even (line 1)) ≡ false → within c (even (line 2)) ≡ false → within c (even (line 3)) ≡ false
     → within c (even (line 4)) ≡ false → within c (even (line 5)) ≡ false → within c (even (line 6)) ≡ false
     → within c (odd (line 0)) ≡ false → within c (odd (line 1)) ≡ false → within c (odd (line 2)) ≡ false → within c (odd (line 3)) ≡ false
-    → within c (odd (line 4)) ≡ false → within c (odd (line 5)) ≡ false → within c (odd (line 6)) ≡ false → 7 ≡ counted (operand_count c)
+    → within c (odd (line 4)) ≡ false → within c (odd (line 5)) ≡ false → within c (odd (line 6)) ≡ false → None ≡ counted (operand_count c)
 unfolding operand_count line_of
 by_no_keys c a0 a1 a2 a3 a4 a5 a6 b0 b1 b2 b3 b4 b5 b6 =
     rw (absent 0 a0 b0, absent 1 a1 b1, absent 2 a2 b2, absent 3 a3 b3, absent 4 a4 b4, absent 5 a5 b5, absent 6 a6 b6)

@@ -3,14 +3,17 @@ use Prim.Native.Nat.{ℕ, suc, ◌+◌, ◌-◌, ◌<◌, ◌≤◌}
 use mathlib.Core.Path.{◌≡◌, refl, sym, ◌∙◌, ap}
 use mathlib.Core.Bool.{Bool, true, false, cond, ◌&&◌, ◌||◌}
 use mathlib.Core.List.{List, [], ◌∷◌, ◌++◌, map}
-use mathlib.Core.Option.{Option, none, some}
+use mathlib.Core.Option as m
+use mathlib.Core.Option.{none, some}
 use native.Mathlib.Omega.{arith}
 use lib.Dec.{eqb, leb, ltb}
 use lib.ListN.{length, get_or, drop, replicate}
-use borrow.Author.Tests.{eqb-true, le-ltb}
+use borrow.Author.Tests.{leb-true, ne_eqb, le-leb, lt-ltb, le-ltb}
+use Rattle.std.specs.Prelude.{Some, None, is_some}
 use Rattle.format.specs.Counts.{numbers, within, ◌‥◌, operand_counts, line_of, operand_count}
 use Rattle.format.specs.Declarations.{Item, o, tail, Field, no, from, declarations, Layout, by_count, in_table, layout}
 use Rattle.format.proofs.Dwords.{impossible}
+use Rattle.layouts.specs.declared.Kind.TheVariants.{Counted, Opaque, Phase, CustomData}
 use Rattle.layouts.specs.Shapes.{counted, field_of, items_of, Laid}
 use Rattle.layouts.specs.Table.{row_of, plain_shape, width_of}
 use Rattle.layouts.proofs.Lines.{by_runs, line}
@@ -63,40 +66,49 @@ laid_by_count c n e =
     let z : n - 0 ≡ n = omega arith in
     member layout (λ x. by_count x (some n)) (line n) all c (rw z at (line_in operand_counts 0 c n e))
 
+-- 113 to 116
+among_phases : (c : ℕ) → within c (113 ‥ 116) ≡ (leb 113 c && ltb c 117)
+unfolding numbers within
+among_phases c = sym (by_runs (113 ‥ 116) refl c)
+
 module _ (c : ℕ) where
   -- a code with no row, no phase and no custom data: as it is counted
-  pub by_count_lem : 40 ≤ row_of c → eqb c 53 ≡ false → (leb 113 c && ltb c 117) ≡ false → layout c ≡ by_count c (operand_count c)
+  pub by_count_lem : None ≡ row_of c → (c ≡ 53 → ⊥) → (113 ≤ c → c ≤ 116 → ⊥) → layout c ≡ by_count c (operand_count c)
   unfolding layout numbers within row_of
   by_count_lem h k m =
-      let t : ltb (row_of c) 40 ≡ false = le-ltb (row_of c) 40 h in
-      rw (sym (by_runs (113 ‥ 116) refl c) ∙ m, k) (not_in_table (λ x. ltb (row_of x) 40) c (by_count c (operand_count c)) declarations refl t)
+      let t : is_some (row_of c) ≡ false = ap is_some (sym h) in
+      rw (among_phases c ∙ no_phase (leb 113 c) refl, ne_eqb c 53 k) (not_in_table (λ x. is_some (row_of x)) c (by_count c (operand_count c)) declarations refl t)
+    where
+      no_phase : (b : Bool) → leb 113 c ≡ b → (b && ltb c 117) ≡ false
+      no_phase true e = let f = leb-true 113 c e in le-ltb c 117 (omega (arith, m f))
+      no_phase false e = refl
 
-  pub custom : eqb c 53 ≡ true → Laid c (plain_shape 5 5 0 true)
+  pub custom : c ≡ 53 → Laid c (plain_shape CustomData 5 0 true)
   unfolding layout numbers within field_of items_of
-  custom e = record { meaning = rw (eqb-true c 53 e); sound = plain_sound 5 5 0 true (omega arith) (omega arith) (omega arith) (omega arith) }
+  custom e = record { meaning = rw e; sound = plain_sound CustomData 5 0 true (omega arith) (omega arith) }
 
-  pub phase : (leb 113 c && ltb c 117) ≡ true → Laid c (plain_shape 3 0 0 false)
+  pub phase : 113 ≤ c → c ≤ 116 → Laid c (plain_shape Phase 0 0 false)
   unfolding layout numbers field_of items_of
-  phase e = record { meaning = rw (sym (by_runs (113 ‥ 116) refl c) ∙ e); sound = plain_sound 3 0 0 false (omega arith) (omega arith) (omega arith) (omega arith) }
+  phase h k = record { meaning = rw (among_phases c, le-leb 113 c h, lt-ltb c 117 (omega arith)); sound = plain_sound Phase 0 0 false (omega arith) (omega arith) }
 
   -- no count
-  pub opaque : layout c ≡ by_count c (operand_count c) → operand_count c ≡ none → Laid c (plain_shape 2 0 0 true)
+  pub opaque : layout c ≡ by_count c (operand_count c) → operand_count c ≡ none → Laid c (plain_shape Opaque 0 0 true)
   unfolding field_of items_of
-  opaque e h = record { meaning = sym (e ∙ ap (by_count c) h); sound = plain_sound 2 0 0 true (omega arith) (omega arith) (omega arith) (omega arith) }
+  opaque e h = record { meaning = sym (e ∙ ap (by_count c) h); sound = plain_sound Opaque 0 0 true (omega arith) (omega arith) }
 
   -- a count, and the field bits of 61, 111 and 190; no such code has a row, is a phase or custom data
-  pub counts : (n : ℕ) → operand_count c ≡ some n → Laid c (plain_shape 1 (width_of c) n true)
+  pub counts : (n : ℕ) → operand_count c ≡ some n → Laid c (plain_shape Counted (width_of c) n true)
   unfolding numbers operand_count field_of items_of width_of
   counts n s =
-      record { meaning = sym (laid_by_count c n s ∙ ap shown fields); sound = plain_sound 1 (width_of c) n true (omega arith) (omega arith) narrow (omega (arith, line_under operand_counts 0 c n s)) }
+      record { meaning = sym (laid_by_count c n s ∙ ap shown fields); sound = plain_sound Counted (width_of c) n true narrow (omega (arith, line_under operand_counts 0 c n s)) }
     where
       shown : Field → Layout
       shown f = record { kind = 1; field = f; items = replicate n o ++ tail ∷ [] }
 
-      fields : cond (within c (61 ∷ 111 ∷ [])) (from 11 12) (cond (eqb c 190) (from 11 14) no) ≡ field_of (plain_shape 1 (width_of c) n true)
+      fields : cond (within c (61 ∷ 111 ∷ [])) (from 11 12) (cond (eqb c 190) (from 11 14) no) ≡ field_of (plain_shape Counted (width_of c) n true)
       fields = rw (sym (by_runs (61 ∷ 111 ∷ []) refl c)) (go (eqb c 61 || eqb c 111) (eqb c 190))
         where
-          go : (a b : Bool) → cond a (from 11 12) (cond b (from 11 14) no) ≡ field_of (plain_shape 1 (cond a 2 (cond b 4 0)) n true)
+          go : (a b : Bool) → cond a (from 11 12) (cond b (from 11 14) no) ≡ field_of (plain_shape Counted (cond a 2 (cond b 4 0)) n true)
           go true b = refl
           go false true = refl
           go false false = refl
@@ -110,17 +122,16 @@ module _ (c : ℕ) where
           go false false = omega arith
 
 -- a count that was told
-pub is_counted : (c n : ℕ) → n ≡ counted (operand_count c) → n < 7 → operand_count c ≡ some n
-is_counted c n e h = go (operand_count c) e
+pub is_counted : (c n : ℕ) → Some n ≡ counted (operand_count c) → operand_count c ≡ some n
+is_counted c n e = go (operand_count c) e
   where
-    go : (m : Option ℕ) → n ≡ counted m → m ≡ some n
-    go none e = absurd (omega arith)
-    go (some k) e = ap some (sym e)
+    go : (m : m.Option ℕ) → Some n ≡ counted m → m ≡ some n
+    go none e = impossible (cc)
+    go (some k) e = let q : n ≡ k = cc in ap some (sym q)
 
-pub is_uncounted : (c n : ℕ) → n ≡ counted (operand_count c) → 7 ≤ n → operand_count c ≡ none
-unfolding operand_count
-is_uncounted c n e h = go (operand_count c) refl e
+pub is_uncounted : (c : ℕ) → None ≡ counted (operand_count c) → operand_count c ≡ none
+is_uncounted c e = go (operand_count c) e
   where
-    go : (m : Option ℕ) → operand_count c ≡ m → n ≡ counted m → m ≡ none
-    go none q e = refl
-    go (some k) q e = absurd (omega (arith, line_under operand_counts 0 c k q))
+    go : (m : m.Option ℕ) → None ≡ counted m → m ≡ none
+    go none e = refl
+    go (some k) e = impossible (cc)

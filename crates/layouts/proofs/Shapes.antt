@@ -10,17 +10,19 @@ use lib.ListN.{get_or, replicate}
 use borrow.Author.Tests.{eqb-true, leb-true}
 use Rattle.format.specs.Counts.{within}
 use Rattle.format.proofs.Dwords.{impossible}
+use Rattle.layouts.specs.declared.Kind.{Kind}
+use Rattle.layouts.specs.declared.Kind.TheVariants.{Counted, Opaque, Phase, Declaration, CustomData}
 use Rattle.layouts.specs.declared.Shape.{Shape}
-use Rattle.layouts.specs.Shapes.{Sound}
+use Rattle.layouts.specs.Shapes.{Sound, kind_number}
 use Rattle.layouts.specs.Table.{plain_shape}
 
 abbrev pub checks : Shape → List Bool
 checks x =
-    leb 1 x.kind ∷ leb x.kind 5 ∷ leb 11 x.first ∷ leb (x.first + x.width) 24 ∷ leb x.bounded x.width ∷ (eqb x.bounded 0 || eqb x.first 11) ∷
+    leb 11 x.first ∷ leb (x.first + x.width) 24 ∷ leb x.bounded x.width ∷ (eqb x.bounded 0 || eqb x.first 11) ∷
     leb x.before 3 ∷ leb x.operands 6 ∷ leb x.small 1 ∷ leb x.after 2 ∷ leb x.extra 2 ∷ within x.list (0 ∷ 16 ∷ 32 ∷ []) ∷ []
 
 abbrev pub passed : List Bool
-passed = replicate 12 true
+passed = replicate 10 true
 
 either : (n : ℕ) → within n (0 ∷ 16 ∷ 32 ∷ []) ≡ true → (n ≡ 0) ⊎ ((n ≡ 16) ⊎ (n ≡ 32))
 unfolding within
@@ -34,18 +36,16 @@ either n = go (eqb n 0) (eqb n 16) (eqb n 32) refl refl refl
 
 pub sound : (x : Shape) → checks x ≡ passed → Sound x
 sound x e = record {
-  kind_from = leb-true _ _ (test 0);
-  kind_to = leb-true _ _ (test 1);
-  bits_from_lem = leb-true _ _ (test 2);
-  bits_to = leb-true _ _ (test 3);
-  bounded = leb-true _ _ (test 4);
-  bounded_from = λ h. low (eqb x.bounded 0) refl (test 5) h;
-  before = leb-true _ _ (test 6);
-  operands = leb-true _ _ (test 7);
-  small = leb-true _ _ (test 8);
-  after = leb-true _ _ (test 9);
-  extra = leb-true _ _ (test 10);
-  list = either x.list (test 11);
+  bits_from = leb-true _ _ (test 0);
+  bits_to = leb-true _ _ (test 1);
+  bounded = leb-true _ _ (test 2);
+  bounded_from = λ h. low (eqb x.bounded 0) refl (test 3) h;
+  before = leb-true _ _ (test 4);
+  operands = leb-true _ _ (test 5);
+  small = leb-true _ _ (test 6);
+  after = leb-true _ _ (test 7);
+  extra = leb-true _ _ (test 8);
+  list = either x.list (test 9);
 }
   where
     test : (k : ℕ) → get_or (checks x) k false ≡ get_or passed k false
@@ -56,11 +56,9 @@ sound x e = record {
     low false p q h = eqb-true x.first 11 q
 
 -- a shape of operands
-pub plain_sound : (k w n : ℕ) (t : Bool) → 1 ≤ k → k ≤ 5 → w ≤ 13 → n ≤ 6 → Sound (plain_shape k w n t)
-plain_sound k w n t p q h m = record {
-  kind_from = p;
-  kind_to = q;
-  bits_from_lem = omega arith;
+pub plain_sound : (k : Kind) (w n : ℕ) (t : Bool) → w ≤ 13 → n ≤ 6 → Sound (plain_shape k w n t)
+plain_sound k w n t h m = record {
+  bits_from = omega arith;
   bits_to = omega arith;
   bounded = omega arith;
   bounded_from = λ h. refl;
@@ -71,3 +69,18 @@ plain_sound k w n t p q h m = record {
   extra = omega arith;
   list = inl refl;
 }
+
+-- the number of a kind is 1 to 5
+pub kind_from : (k : Kind) → 1 ≤ kind_number k
+kind_from Counted = omega arith
+kind_from Opaque = omega arith
+kind_from Phase = omega arith
+kind_from Declaration = omega arith
+kind_from CustomData = omega arith
+
+pub kind_to : (k : Kind) → kind_number k ≤ 5
+kind_to Counted = omega arith
+kind_to Opaque = omega arith
+kind_to Phase = omega arith
+kind_to Declaration = omega arith
+kind_to CustomData = omega arith

@@ -1,16 +1,18 @@
 -- The rule of the table of declarations; the row of a code.
 use Prim.Native.Nat.{ℕ, zero, suc, ◌+◌, ◌-◌, ◌%◌, ◌<◌, ◌≤◌}
-use mathlib.Core.Path.{◌≡◌, refl, ◌∙◌, ap, subst}
-use mathlib.Core.Bool.{Bool, true, false, cond}
+use mathlib.Core.Path.{◌≡◌, refl, sym, ◌∙◌, ap, subst}
+use mathlib.Core.Bool.{Bool, true, false, cond, ◌&&◌}
 use mathlib.Core.List.{List, [], ◌∷◌, map}
 use native.Mathlib.Omega.{arith}
 use lib.Dec.{eqb, ltb}
 use lib.ListN.{length, get_or}
-use borrow.Author.Tests.{ltb-true, ltb-false, lt-ltb, le-ltb, ne_eqb}
+use borrow.Author.Tests.{eqb-true, ltb-true, ltb-false, lt-ltb, le-ltb, ne_eqb}
+use Rattle.std.specs.Prelude.{Option, Some, None}
 use Rattle.format.specs.Counts.{numbers, within, line_of, operand_count}
 use Rattle.format.specs.Declarations.{Layout, in_table, layout}
 use Rattle.layouts.specs.Shapes.{field_of, items_of, meant, Laid}
 use Rattle.layouts.specs.Table.{code_of, row_of, shape_of, Right, Declares}
+use Rattle.format.proofs.Dwords.{both, impossible}
 use Rattle.format.proofs.Each.{at, below}
 use Rattle.layouts.proofs.Shapes.{checks, passed, sound}
 
@@ -89,76 +91,64 @@ past a (suc n) i (r, m) h = let p = past a n i r h in omega arith
 
 -- ---- the row of a code, by comparisons
 module _ (c : ℕ) where
-  pub row_under : c < 88 → 40 ≡ row_of c
+  pub row_first : 88 ≤ c → c ≤ 106 → Some (c - 88) ≡ row_of c
   unfolding row_of
-  row_under h = rw (lt-ltb c 88 h)
+  row_first h k = rw (le-ltb c 88 h, lt-ltb c 107 (omega arith))
 
-  pub row_first : 88 ≤ c → c < 107 → c - 88 ≡ row_of c
-  unfolding row_of
-  row_first h k = rw (le-ltb c 88 h, lt-ltb c 107 k)
-
-  pub row_120 : c ≡ 120 → 19 ≡ row_of c
+  pub row_120 : c ≡ 120 → Some 19 ≡ row_of c
   unfolding row_of
   row_120 e = rw e
 
-  pub row_between : 107 ≤ c → c < 144 → (c ≡ 120 → ⊥) → 40 ≡ row_of c
+  pub row_second : 144 ≤ c → c ≤ 162 → Some (c - 124) ≡ row_of c
   unfolding row_of
-  row_between h k n = rw (le-ltb c 88 (omega arith), le-ltb c 107 h, ne_eqb c 120 n, lt-ltb c 144 k)
+  row_second h k = rw (le-ltb c 88 (omega arith), le-ltb c 107 (omega arith), ne_eqb c 120 (λ e. omega arith), le-ltb c 144 h, lt-ltb c 163 (omega arith))
 
-  pub row_second : 144 ≤ c → c < 163 → c - 124 ≡ row_of c
-  unfolding row_of
-  row_second h k = rw (le-ltb c 88 (omega arith), le-ltb c 107 (omega arith), ne_eqb c 120 (λ e. omega arith), le-ltb c 144 h, lt-ltb c 163 k)
-
-  pub row_206 : c ≡ 206 → 39 ≡ row_of c
+  pub row_206 : c ≡ 206 → Some 39 ≡ row_of c
   unfolding row_of
   row_206 e = rw e
 
-  pub row_over : 163 ≤ c → (c ≡ 206 → ⊥) → 40 ≡ row_of c
+  -- none of them
+  pub row_none : (88 ≤ c → c ≤ 106 → ⊥) → (c ≡ 120 → ⊥) → (144 ≤ c → c ≤ 162 → ⊥) → (c ≡ 206 → ⊥) → None ≡ row_of c
   unfolding row_of
-  row_over h n =
-      rw (le-ltb c 88 (omega arith), le-ltb c 107 (omega arith), ne_eqb c 120 (λ e. omega arith), le-ltb c 144 (omega arith), le-ltb c 163 h, ne_eqb c 206 n)
+  row_none f n s m = rw (ne_eqb c 120 n, ne_eqb c 206 m) (go (ltb c 88) refl (ltb c 107) refl (ltb c 144) refl (ltb c 163) refl)
+    where
+      go : (p : Bool) → ltb c 88 ≡ p → (q : Bool) → ltb c 107 ≡ q → (r : Bool) → ltb c 144 ≡ r → (u : Bool) → ltb c 163 ≡ u
+          → None ≡ cond p None (cond q (Some (c - 88)) (cond r None (cond u (Some (c - 124)) None)))
+      go true e q h r i u j = refl
+      go false e true h r i u j = absurd (f (ltb-false c 88 e) (omega (arith, ltb-true c 107 h)))
+      go false e false h true i u j = refl
+      go false e false h false i true j = absurd (s (ltb-false c 144 i) (omega (arith, ltb-true c 163 j)))
+      go false e false h false i false j = refl
 
--- a code's row has the code
-again : ℕ → ℕ
-again c = cond (ltb (row_of c) 40) (code_of (row_of c)) c
+-- a code's row is one of the table's, and has the code
+abbrev fits : Option ℕ → ℕ → Bool
+fits None c = true
+fits (Some i) c = ltb i 40 && eqb (code_of i) c
 
-pub row_code : (c : ℕ) → row_of c < 40 → code_of (row_of c) ≡ c
-unfolding again code_of row_of numbers
-row_code c h = go (ltb c 207) refl
+row_fits : (c : ℕ) → fits (row_of c) c ≡ true
+unfolding code_of row_of numbers
+row_fits c = go (ltb c 207) refl
   where
-    go : (b : Bool) → ltb c 207 ≡ b → code_of (row_of c) ≡ c
-    go true k = rw (lt-ltb (row_of c) 40 h) at (below again (λ c. c) 207 refl c (ltb-true c 207 k))
-    go false k = let m = ltb-false c 207 k in absurd (omega (arith, row_over c (omega arith) (λ e. omega arith)))
+    go : (b : Bool) → ltb c 207 ≡ b → fits (row_of c) c ≡ true
+    go true k = below (λ c. fits (row_of c) c) (λ c. true) 207 refl c (ltb-true c 207 k)
+    go false k = let m = ltb-false c 207 k in rw (← row_none c (λ a b. omega arith) (λ b. omega arith) (λ a b. omega arith) (λ b. omega arith))
 
--- so the row tells the code's layout
-pub of_row : (c i x : ℕ) → i ≡ row_of c → i < 40 → Right i x → Laid c (shape_of x)
-of_row c i x e h r =
-    let k : code_of i ≡ c = ap code_of e ∙ row_code c (omega arith) in
-    subst (λ n. Laid n (shape_of x)) k r.laid
+module _ (c i : ℕ) (e : Some i ≡ row_of c) where
+  fit : (ltb i 40 && eqb (code_of i) c) ≡ true
+  fit = ap (λ r. fits r c) e ∙ row_fits c
 
--- no row is 0, which has no code
-pub declares_row : (c i x : ℕ) → i ≡ row_of c → i < 40 → Right i x → Declares c x
-declares_row c i x e h r = record { laid = λ n. of_row c i x e h r; none = λ z. absurd (coded z) }
-  where
-    coded : x ≡ 0 → ⊥
-    coded z =
-        let k : code_of i ≡ c = ap code_of e ∙ row_code c (omega arith) in
-        let m : c ≡ 0 = omega (arith, r.code) in
-        omega (arith, row_under c (omega arith))
+  pub row_within : i < 40
+  row_within = ltb-true i 40 (both _ _ fit).0
 
-rows_end : (c : ℕ) → row_of c ≤ 40
-unfolding row_of
-rows_end c = go (ltb c 88) refl (ltb c 107) refl (eqb c 120) (ltb c 144) (ltb c 163) refl (eqb c 206)
-  where
-    go : (a : Bool) → ltb c 88 ≡ a → (b : Bool) → ltb c 107 ≡ b → (d e : Bool) → (f : Bool) → ltb c 163 ≡ f → (g : Bool)
-        → cond a 40 (cond b (c - 88) (cond d 19 (cond e 40 (cond f (c - 124) (cond g 39 40))))) ≤ 40
-    go true p b q d e f r g = omega arith
-    go false p true q d e f r g = let m = ltb-true c 107 q in omega arith
-    go false p false q true e f r g = omega arith
-    go false p false q false true f r g = omega arith
-    go false p false q false false true r g = let m = ltb-true c 163 r in omega arith
-    go false p false q false false false r true = omega arith
-    go false p false q false false false r false = omega arith
+  row_code : code_of i ≡ c
+  row_code = eqb-true _ _ (both _ _ fit).1
 
-pub declares_none : (c i : ℕ) → i ≡ row_of c → 40 ≤ i → Declares c 0
-declares_none c i e h = record { laid = λ n. absurd (n refl); none = λ z. omega (arith, rows_end c) }
+  -- so the row tells the code's layout
+  pub of_row : (x : ℕ) → Right i x → Laid c (shape_of x)
+  of_row x r = subst (λ n. Laid n (shape_of x)) row_code r.laid
+
+  pub declares_row : (x : ℕ) → Right i x → Declares c (Some x)
+  declares_row x r = record { laid = λ d k. let q : x ≡ d = cc in subst (λ n. Laid c (shape_of n)) q (of_row x r); none = λ z. impossible (cc) }
+
+pub declares_none : (c : ℕ) → None ≡ row_of c → Declares c None
+declares_none c e = record { laid = λ d k. impossible (cc); none = λ z. sym e }

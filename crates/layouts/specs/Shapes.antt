@@ -1,13 +1,24 @@
 -- What a count and a shape of the code mean, in the words of document 01's definitions.
-use Rattle.std.proofs.Math.Option.{Option, none, some}
-use Rattle.std.specs.Prelude.{◌⊎◌, ℕ, ◌+◌, ◌-◌, ◌<◌, ◌≤◌, ◌≡◌, List, [], ◌∷◌, ◌++◌, Bool, cond, replicate, eqb}
+use Rattle.std.proofs.Math.Option as m
+use Rattle.std.proofs.Math.Option.{none, some}
+use Rattle.std.specs.Prelude.{Option, Some, None, ◌⊎◌, ℕ, ◌+◌, ◌-◌, ◌<◌, ◌≤◌, ◌≡◌, List, [], ◌∷◌, ◌++◌, Bool, cond, replicate, eqb}
 use Rattle.format.specs.Declarations.{Item, o, d, small, s, tail, list, Field, no, from, bounded, Layout, layout}
+use Rattle.layouts.specs.declared.Kind.{Kind}
+use Rattle.layouts.specs.declared.Kind.TheVariants.{Counted, Opaque, Phase, Declaration, CustomData}
 use Rattle.layouts.specs.declared.Shape.{Shape}
 
--- a code's operand count; 7, which none has, if it has none
-abbrev pub counted : Option ℕ → ℕ
-counted none = 7
-counted (some n) = n
+-- a code's operand count, as the code holds it
+abbrev pub counted : m.Option ℕ → Option ℕ
+counted none = None
+counted (some n) = Some n
+
+-- the number of a kind
+abbrev pub kind_number : Kind → ℕ
+kind_number Counted = 1
+kind_number Opaque = 2
+kind_number Phase = 3
+kind_number Declaration = 4
+kind_number CustomData = 5
 
 -- no width: no field bits; no bounded bits: width bits from the first on; else width bits from bit 11 on, the lowest bounded
 unfoldable pub field_of : Shape → Field
@@ -28,13 +39,11 @@ items_of x =
     (replicate x.after d ++ (replicate x.extra s ++ (listed x.list ++ tailed x.tail)))))
 
 abbrev pub meant : Shape → Layout
-meant x = record { kind = x.kind; field = field_of x; items = items_of x }
+meant x = record { kind = kind_number x.kind; field = field_of x; items = items_of x }
 
 -- the numbers of every shape stay in these bounds
 pub record Sound (x : Shape) : Type 0 where
-  pub kind_from : 1 ≤ x.kind
-  pub kind_to : x.kind ≤ 5
-  pub bits_from_lem : 11 ≤ x.first
+  pub bits_from : 11 ≤ x.first
   pub bits_to : x.first + x.width ≤ 24
   pub bounded : x.bounded ≤ x.width
   pub bounded_from : 0 < x.bounded → x.first ≡ 11

@@ -5,14 +5,32 @@ ghost use Rattle.std.specs.Prelude.{◌≡◌, ◌<◌, ◌≤◌};
 ghost use Rattle.std.proofs.Math.Option.{none, some};
 ghost use Rattle.format.specs.Counts.{operand_count};
 ghost use Rattle.format.specs.Declarations.{field_in, in_bounds};
-ghost use Rattle.layouts.specs.Shapes.{counted, field_of, Sound, Laid};
+ghost use Rattle.layouts.specs.Shapes.{kind_number, counted, field_of, Sound, Laid};
 ghost use Rattle.layouts.specs.Table.{row_of, Right, Declares, shape_of, plain_shape, width_of};
+
+// What a code is. Rows of the reading hold the number of its kind.
+#[derive(Clone, Copy, PartialEq, Eq)]
+pub enum Kind {
+    Counted = 1,
+    Opaque = 2,
+    Phase = 3,
+    Declaration = 4,
+    CustomData = 5,
+}
+
+impl Kind {
+    pub fn number(self) -> u32
+        ensures { result ≡ kind_number self }
+    {
+        self as u32
+    }
+}
 
 // What stands beside a code and after its token. Field bits: width bits from bit first on; where bounded is above 0, that many bits from
 // bit 11 on hold lo to hi. Then dwords, operands, small dwords, dwords, dwords of model 5.1 alone, a list counted by list bits, and a tail.
 #[derive(Clone, Copy, Drop)]
 pub struct Shape {
-    pub kind: u32,
+    pub kind: Kind,
     pub first: u32,
     pub width: u32,
     pub bounded: u32,
@@ -52,7 +70,7 @@ const EXTRA: u32 = 0x800_0000;
 const LIST: u32 = 0x2000_0000;
 
 // The declarations, a code and its shape in each row.
-const DECLARATIONS: [u32; 40] = [
+static DECLARATIONS: [u32; 40] = [
     88 + 12 * WIDTH + 5 * BOUNDED + LO + 10 * HI + OPERAND + SMALL + EXTRA,
     89 + WIDTH + OPERAND + 2 * EXTRA,
     90 + 4 * WIDTH + 4 * BOUNDED + 2 * HI + OPERAND + EXTRA,
@@ -95,133 +113,65 @@ const DECLARATIONS: [u32; 40] = [
     206 + BEFORE,
 ];
 
-// A code's operand count, by comparisons; 7: it has none. Even and odd codes stand in arms of their own: neighbours in one arm would be
+// A code's operand count, by comparisons, if it has one. Even and odd codes stand in arms of their own: neighbours in one arm would be
 // compared as a range, and one range after the other, where single codes become one table.
-pub fn operand_count(code: u32) -> u32
+pub fn operand_count(code: u32) -> Option<u32>
     ensures { result ≡ counted (operand_count code) }
 {
     match code {
-        2 | 10 | 18 | 20 | 22 | 48 | 58 | 62 | 190 => 0,
-        7 | 9 | 19 | 21 | 23 => 0,
-        4 | 6 | 8 | 44 | 76 | 118 => 1,
-        3 | 13 | 31 | 63 | 117 | 119 | 143 => 1,
-        12 | 26 | 28 | 40 | 54 | 64 | 66 | 68 | 86 | 122 => 2,
-        124 | 130 | 134 | 136 | 178 | 202 | 212 | 214 | 216 => 2,
-        5 | 11 | 25 | 27 | 43 | 47 | 59 | 65 | 67 | 75 | 111 | 121 | 123 => 2,
-        125 | 129 | 131 | 135 | 137 | 141 | 179 | 199 | 201 | 205 | 215 | 217 => 2,
-        0 | 14 | 16 | 24 | 30 | 32 | 34 | 36 | 42 | 52 | 56 | 60 | 80 => 3,
-        84 | 110 | 164 | 166 | 170 | 174 | 176 | 192 | 194 | 196 | 198 | 204 | 210 => 3,
-        1 | 15 | 17 | 29 | 33 | 37 | 39 | 41 | 45 | 49 => 3,
-        51 | 57 | 61 | 77 | 79 | 83 | 85 | 87 | 163 | 165 => 3,
-        169 | 171 | 173 | 175 | 177 | 191 | 193 | 195 | 197 | 203 => 3,
-        38 | 46 | 50 | 78 | 82 | 108 | 132 | 138 => 4,
-        168 | 172 | 180 | 182 | 184 | 186 | 188 | 200 => 4,
-        35 | 55 | 69 | 81 | 109 | 133 | 139 => 4,
-        167 | 181 | 183 | 187 | 189 | 211 | 213 => 4,
-        70 | 72 | 74 | 126 | 140 | 142 => 5,
-        71 | 127 | 185 => 5,
-        128 => 6,
-        73 => 6,
-        _ => 7,
+        2 | 10 | 18 | 20 | 22 | 48 | 58 | 62 | 190 => Some(0),
+        7 | 9 | 19 | 21 | 23 => Some(0),
+        4 | 6 | 8 | 44 | 76 | 118 => Some(1),
+        3 | 13 | 31 | 63 | 117 | 119 | 143 => Some(1),
+        12 | 26 | 28 | 40 | 54 | 64 | 66 | 68 | 86 | 122 => Some(2),
+        124 | 130 | 134 | 136 | 178 | 202 | 212 | 214 | 216 => Some(2),
+        5 | 11 | 25 | 27 | 43 | 47 | 59 | 65 | 67 | 75 | 111 | 121 | 123 => Some(2),
+        125 | 129 | 131 | 135 | 137 | 141 | 179 | 199 | 201 | 205 | 215 | 217 => Some(2),
+        0 | 14 | 16 | 24 | 30 | 32 | 34 | 36 | 42 | 52 | 56 | 60 | 80 => Some(3),
+        84 | 110 | 164 | 166 | 170 | 174 | 176 | 192 | 194 | 196 | 198 | 204 | 210 => Some(3),
+        1 | 15 | 17 | 29 | 33 | 37 | 39 | 41 | 45 | 49 => Some(3),
+        51 | 57 | 61 | 77 | 79 | 83 | 85 | 87 | 163 | 165 => Some(3),
+        169 | 171 | 173 | 175 | 177 | 191 | 193 | 195 | 197 | 203 => Some(3),
+        38 | 46 | 50 | 78 | 82 | 108 | 132 | 138 => Some(4),
+        168 | 172 | 180 | 182 | 184 | 186 | 188 | 200 => Some(4),
+        35 | 55 | 69 | 81 | 109 | 133 | 139 => Some(4),
+        167 | 181 | 183 | 187 | 189 | 211 | 213 => Some(4),
+        70 | 72 | 74 | 126 | 140 | 142 => Some(5),
+        71 | 127 | 185 => Some(5),
+        128 => Some(6),
+        73 => Some(6),
+        _ => None,
     }
 }
 
-// The row of a declaration's code: 88 to 106, 120, 144 to 162, 206. 40: the code declares nothing.
-fn row_of(code: u32) -> usize
+// The row of a declaration's code: 88 to 106, 120, 144 to 162, 206. Another code declares nothing.
+fn row_of(code: u32) -> Option<usize>
     ensures { result ≡ row_of code }
 {
     let c = code as usize;
-    if c < 88 {
-        return 40;
-    }
-    if c < 107 {
-        return c - 88;
-    }
-    if c == 120 {
-        return 19;
-    }
-    if c < 144 {
-        return 40;
-    }
-    if c < 163 {
-        return c - 124;
-    }
-    if c == 206 {
-        return 39;
-    }
-    40
-}
-
-// A row of the table's second half, by constant indices as in `row_at`, which is in two so that neither function is long.
-fn row_from_20(row: usize) -> u32
-    requires { (20 ≤ row) × (row < 40) }
-    ensures { Right row result }
-{
-    match row {
-        20 => DECLARATIONS[20],
-        21 => DECLARATIONS[21],
-        22 => DECLARATIONS[22],
-        23 => DECLARATIONS[23],
-        24 => DECLARATIONS[24],
-        25 => DECLARATIONS[25],
-        26 => DECLARATIONS[26],
-        27 => DECLARATIONS[27],
-        28 => DECLARATIONS[28],
-        29 => DECLARATIONS[29],
-        30 => DECLARATIONS[30],
-        31 => DECLARATIONS[31],
-        32 => DECLARATIONS[32],
-        33 => DECLARATIONS[33],
-        34 => DECLARATIONS[34],
-        35 => DECLARATIONS[35],
-        36 => DECLARATIONS[36],
-        37 => DECLARATIONS[37],
-        38 => DECLARATIONS[38],
-        _ => DECLARATIONS[39],
+    match c {
+        88..=106 => Some(c - 88),
+        120 => Some(19),
+        144..=162 => Some(c - 124),
+        206 => Some(39),
+        _ => None,
     }
 }
 
-// A row of the table, which tells its code's layout. Each arm takes its row by a constant index, which the compiler turns into a number: an
-// index that varies would have the whole table copied to the stack at each call. The second half is called in the last arm, and not beside
-// the first by an `if`: so the compiler makes one match of both.
+// A row of the table, which tells its code's layout.
 fn row_at(row: usize) -> u32
     requires { row < 40 }
     ensures { Right row result }
 {
-    match row {
-        0 => DECLARATIONS[0],
-        1 => DECLARATIONS[1],
-        2 => DECLARATIONS[2],
-        3 => DECLARATIONS[3],
-        4 => DECLARATIONS[4],
-        5 => DECLARATIONS[5],
-        6 => DECLARATIONS[6],
-        7 => DECLARATIONS[7],
-        8 => DECLARATIONS[8],
-        9 => DECLARATIONS[9],
-        10 => DECLARATIONS[10],
-        11 => DECLARATIONS[11],
-        12 => DECLARATIONS[12],
-        13 => DECLARATIONS[13],
-        14 => DECLARATIONS[14],
-        15 => DECLARATIONS[15],
-        16 => DECLARATIONS[16],
-        17 => DECLARATIONS[17],
-        18 => DECLARATIONS[18],
-        19 => DECLARATIONS[19],
-        _ => row_from_20(row),
-    }
+    DECLARATIONS[row]
 }
 
-// A declaration's row of the table; 0: the code declares nothing.
-pub fn declaration(code: u32) -> u32
+// A declaration's row of the table, if the code declares.
+pub fn declaration(code: u32) -> Option<u32>
     ensures { Declares code result }
 {
-    let row = row_of(code);
-    if row < 40 {
-        return row_at(row);
-    }
-    0
+    let row = row_of(code)?;
+    Some(row_at(row))
 }
 
 // The shape that a row tells.
@@ -229,7 +179,7 @@ pub fn declared(d: u32) -> Shape
     ensures { result ≡ shape_of d }
 {
     Shape {
-        kind: 4,
+        kind: Kind::Declaration,
         first: 11 + d / FIRST % 2 * 5,
         width: d / WIDTH % 16,
         bounded: d / BOUNDED % 8,
@@ -246,7 +196,7 @@ pub fn declared(d: u32) -> Shape
 }
 
 // A shape of operands and perhaps a tail, with field bits from bit 11 on.
-fn plain(kind: u32, width: u32, operands: u32, tail: bool) -> Shape
+fn plain(kind: Kind, width: u32, operands: u32, tail: bool) -> Shape
     ensures { result ≡ plain_shape kind width operands tail }
 {
     Shape {
@@ -270,13 +220,11 @@ fn plain(kind: u32, width: u32, operands: u32, tail: bool) -> Shape
 fn counted_width(code: u32) -> u32
     ensures { result ≡ width_of code }
 {
-    if (code == 61) | (code == 111) {
-        return 2;
+    match code {
+        61 | 111 => 2,
+        190 => 4,
+        _ => 0,
     }
-    if code == 190 {
-        return 4;
-    }
-    0
 }
 
 // The layout of a code of n operands.
@@ -284,7 +232,7 @@ pub fn counted_layout(code: u32, n: u32) -> Shape
     requires { operand_count code ≡ some n }
     ensures { Laid code result }
 {
-    plain(1, counted_width(code), n, true)
+    plain(Kind::Counted, counted_width(code), n, true)
 }
 
 // The layout of a code without a count: a declaration, a phase, custom data or an opaque one. It has one operand at most. By its row and not
@@ -293,17 +241,14 @@ pub fn uncounted_layout(code: u32) -> Shape
     requires { operand_count code ≡ none }
     ensures { Laid code result × (result.operands ≤ 1) }
 {
-    let row = row_of(code);
-    if row < 40 {
+    if let Some(row) = row_of(code) {
         return declared(row_at(row));
     }
-    if code == 53 {
-        return plain(5, 5, 0, true);
+    match code {
+        53 => plain(Kind::CustomData, 5, 0, true),
+        113..=116 => plain(Kind::Phase, 0, 0, false),
+        _ => plain(Kind::Opaque, 0, 0, true),
     }
-    if (113 <= code) & (code < 117) {
-        return plain(3, 0, 0, false);
-    }
-    plain(2, 0, 0, true)
 }
 
 // A token's field: the shape's bits, divided by 2,048.
@@ -323,5 +268,5 @@ pub fn in_bounds(s: Shape, t: u32) -> bool
         return true;
     }
     let x = (t >> 11) % (1u32 << s.bounded);
-    (s.lo <= x) & (x <= s.hi)
+    s.lo <= x && x <= s.hi
 }

@@ -1,16 +1,18 @@
--- The comparisons are those of the definition.
-use borrow.Author.Tests.{eq-eqb, ne_eqb}
+-- The arms are the comparisons of the definition.
+use Rattle.std.proofs.Common.{rules}
+use mathlib.Core.Logic.{⊎_elim}
+use borrow.Author.Tests.{ne_eqb}
 use Rattle.layouts.specs.Table.{width_of}
 use Rattle.layouts.proofs.counted_width.Goals as goal
 
-pub returns-then-code : goal.returns-then-code
+pub returns-in-61 : goal.returns-in-61
 unfolding width_of
-returns-then-code c = rw c.if-code.true
+returns-in-61 c = ⊎_elim (λ e. rw e) (λ e. rw e) c.in-61.is
 
-pub returns-then-code-eq190 : goal.returns-then-code-eq190
+pub returns-in-190 : goal.returns-in-190
 unfolding width_of
-returns-then-code-eq190 c = rw (c.if-code.false, eq-eqb _ _ c.if-code-eq190.true)
+returns-in-190 c = rw c.in-190.is
 
-pub returns : goal.returns
+pub returns-in_default : goal.returns-in_default
 unfolding width_of
-returns c = rw (c.if-code.false, ne_eqb _ _ c.if-code-eq190.false)
+returns-in_default c = rw (ne_eqb c.args.code 61 (search rules), ne_eqb c.args.code 111 (search rules), ne_eqb c.args.code 190 (search rules))

@@ -1,10 +1,10 @@
--- A code has a row below the table's end, or none.
-use borrow.Author.Rules.{rules}
-use Rattle.layouts.proofs.Table.{declares_row, declares_none}
+-- A code that declares has a row of the table.
+use mathlib.Core.Path.{sym, ◌∙◌}
+use Rattle.layouts.proofs.Table.{row_within, declares_row}
 use Rattle.layouts.proofs.declaration.Goals as goal
 
-pub returns-then-row-lt40 : goal.returns-then-row-lt40
-returns-then-row-lt40 c = declares_row c.args.code c.row_of-row.result c.row_at.result c.row_of-row.ensures c.if-row-lt40.true c.row_at.ensures
+pub row_at-requires : goal.row_at-requires
+row_at-requires c = row_within c.args.code _ (sym c.in_ok-row.was ∙ c.row_of.ensures)
 
 pub returns : goal.returns
-returns c = declares_none c.args.code c.row_of-row.result c.row_of-row.ensures (search rules)
+returns c = declares_row c.args.code _ (sym c.in_ok-row.was ∙ c.row_of.ensures) _ c.row_at.ensures

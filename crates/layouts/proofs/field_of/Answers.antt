@@ -6,7 +6,7 @@ use Rattle.layouts.proofs.field_of.Goals as goal
 pub nonzero_rem-result : goal.nonzero_rem-result
 nonzero_rem-result c =
     let h = c.requires in
-    divides c.args.s.width (omega (arith, h.bits_from_lem, h.bits_to))
+    divides c.args.s.width (omega (arith, h.bits_from, h.bits_to))
 
 pub returns : goal.returns
 returns c = by_shifts c.args.s c.args.t c.requires

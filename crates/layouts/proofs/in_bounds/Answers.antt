@@ -1,5 +1,7 @@
 -- The bounded bits begin at bit 11.
 use native.Mathlib.Omega.{arith}
+use mathlib.Core.Path.{◌∙◌}
+use borrow.Author.Tests.{le-leb, lt-leb}
 use Rattle.layouts.proofs.Fields.{divides, unbounded, bounds}
 use Rattle.layouts.proofs.in_bounds.Goals as goal
 
@@ -9,8 +11,10 @@ returns-then-s-eq0 c = unbounded c.args.s c.args.t c.requires c.if-s-eq0.true
 pub nonzero_rem-x : goal.nonzero_rem-x
 nonzero_rem-x c =
     let h = c.requires in
-    divides c.args.s.bounded (omega (arith, h.bits_from_lem, h.bits_to, h.bounded))
+    divides c.args.s.bounded (omega (arith, h.bits_from, h.bits_to, h.bounded))
 
-pub returns : goal.returns
-returns c =
-    bounds c.args.s c.args.t c.requires c.if-s-eq0.false
+pub returns-then-s-x : goal.returns-then-s-x
+returns-then-s-x c = rw (le-leb _ _ c.if-s-x.true) at (bounds c.args.s c.args.t c.requires c.if-s-eq0.false)
+
+pub returns-else-s-x : goal.returns-else-s-x
+returns-else-s-x c = let e = lt-leb _ _ c.if-s-x.false in e ∙ rw e at (bounds c.args.s c.args.t c.requires c.if-s-eq0.false)
