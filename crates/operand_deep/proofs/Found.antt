@@ -3,9 +3,10 @@ use Prim.Native.Nat.{ℕ, ◌+◌, ◌-◌, ◌*◌, ◌≤◌}
 use mathlib.Core.Path.{◌≡◌, refl, ap, ◌∙◌}
 use mathlib.Core.Bool.{true}
 use mathlib.Core.List.{List, [], ◌∷◌, ◌++◌}
-use mathlib.Core.Option.{Option, none as nothing, some as just}
+use mathlib.Core.Option.{Option as Maybe, none as nothing, some as just}
 use native.Mathlib.Omega.{arith}
 use lib.ListN.{length, drop, length-append, length-drop}
+use Rattle.std.proofs.Common.{Some, None}
 use Rattle.format.specs.Dwords.{Reader}
 use Rattle.format.specs.Operands as op
 use Rattle.format.specs.Operands.{Tree, none, plain, node, read_index, operand, dwords}
@@ -15,8 +16,9 @@ use Rattle.format.proofs.Rows.{four_lengths, table_length}
 use Rattle.format.proofs.Made.{exact_node}
 use Rattle.operand_deep.specs.Confirm.{confirm_index, confirm}
 use Rattle.operand_deep.specs.Walks.{walked, reached, there}
-use Rattle.operand_deep.specs.declared.Walked.TheVariants.{Is, Not}
-use Rattle.operand_deep.specs.declared.Step.TheVariants.{To, Off}
+use Rattle.operand_deep.specs.declared.Walked.{Walked}
+use Rattle.operand_deep.specs.declared.Step.{Step}
+use Rattle.operand_deep.specs.declared.Place.{Place}
 use Rattle.operand_deep.proofs.Every.{Every, unmet, met}
 use Rattle.operand_deep.proofs.Sound.{Held, sound_index, sound_all}
 
@@ -35,76 +37,71 @@ few_of (node t e m a b c) h =
     let x = exact_node t e m a b c h in
     omega (arith, four_lengths m (tree_words a) (tree_words b) (tree_words c), four_lengths (e ++ m) (dwords a) (dwords b) (dwords c), length-append e m, one_at_most e x.extension, few_of a x.first, few_of b x.second, few_of c x.third)
 
--- a tree stands at row r and word w of two pools, with so many rows, words and dwords
-pub record Found (o : Option Tree) (rs ws : List ℕ) (r w k s d : ℕ) : Type 0 where
+-- a tree stands at row r and word w of two pools, with these rows, words and dwords
+pub record Found (o : Maybe Tree) (rs ws : List ℕ) (r w : ℕ) (x : Walked) : Type 0 where
   pub tree : Tree
   pub is : o ≡ just tree
-  pub rows_are : tree_rows tree ≡ k
-  pub words_are : length (tree_words tree) ≡ s
-  pub dwords_are : length (dwords tree) ≡ d
-  pub rows_fit : 16 * (r + k) ≤ length rs
-  pub words_fit : s ≤ length ws - w
-  pub few : d ≤ 2 * k + s
+  pub rows_are : tree_rows tree ≡ x.rows
+  pub words_are : length (tree_words tree) ≡ x.words
+  pub dwords_are : length (dwords tree) ≡ x.dwords
+  pub rows_fit : 16 * (r + x.rows) ≤ length rs
+  pub words_fit : x.words ≤ length ws - w
+  pub few : x.dwords ≤ 2 * x.rows + x.words
 
-found_tree : (read : Reader Tree) (rs ws : List ℕ) (r w : ℕ) (o : Option Tree) (x : Tree) → 16 * r ≤ length rs → o ≡ just x → Held read (drop (16 * r) rs) (drop w ws) r w x →
-    Found o rs ws r w (tree_rows x) (length (tree_words x)) (length (dwords x))
-found_tree read rs ws r w o x l e h =
-    let a = ap length h.rows ∙ length-append (tree_table r w x) _ in
-    let b = ap length h.words ∙ length-append (tree_words x) _ in
+found_of : (read : Reader Tree) (rs ws : List ℕ) (r w : ℕ) (o : Maybe Tree) → 16 * r ≤ length rs → Every (Held read (drop (16 * r) rs) (drop w ws) r w) o → {x : Walked} → Some x ≡ walked o → Found o rs ws r w x
+found_of read rs ws r w nothing l unmet e = impossible (cc)
+found_of read rs ws r w (just t) l (met h) {x} e =
+    let a = ap length h.rows ∙ length-append (tree_table r w t) _ in
+    let b = ap length h.words ∙ length-append (tree_words t) _ in
+    let f : record { rows = tree_rows t; words = length (tree_words t); dwords = length (dwords t) } ≡ x = cc in
+    rw (← f)
     record {
-      tree = x;
-      is = e;
+      tree = t;
+      is = refl;
       rows_are = refl;
       words_are = refl;
       dwords_are = refl;
-      rows_fit = omega (arith, a, length-drop (16 * r) rs, table_length r w x);
+      rows_fit = omega (arith, a, length-drop (16 * r) rs, table_length r w t);
       words_fit = omega (arith, b, length-drop w ws);
-      few = few_of x h.exact;
+      few = few_of t h.exact;
     }
 
-found_of : (read : Reader Tree) (rs ws : List ℕ) (r w : ℕ) (o : Option Tree) → 16 * r ≤ length rs → Every (Held read (drop (16 * r) rs) (drop w ws) r w) o → (k s d : ℕ) → Is k s d ≡ walked o → Found o rs ws r w k s d
-found_of read rs ws r w nothing l unmet k s d e = impossible (cc)
-found_of read rs ws r w (just x) l (met h) k s d e =
-    let f = found_tree read rs ws r w (just x) x l refl h in
-    let ek : tree_rows x ≡ k = cc in
-    let es : length (tree_words x) ≡ s = cc in
-    let ed : length (dwords x) ≡ d = cc in
-    record { tree = x; is = refl; rows_are = ek; words_are = es; dwords_are = ed; rows_fit = rw ek at f.rows_fit; words_fit = rw es at f.words_fit; few = omega (arith, f.few) }
+pub walk_found : (k : ℕ) (rs ws : List ℕ) (r w : ℕ) → 16 * r ≤ length rs → {x : Walked} → Some x ≡ walked (there (confirm k) rs ws r w) → Found (there (confirm k) rs ws r w) rs ws r w x
+walk_found k rs ws r w l e = found_of (operand k) rs ws r w _ l (sound_all k _ _ r w) e
 
-pub walk_found : (k : ℕ) (rs ws : List ℕ) (r w : ℕ) → 16 * r ≤ length rs → (i s d : ℕ) → Is i s d ≡ walked (there (confirm k) rs ws r w) → Found (there (confirm k) rs ws r w) rs ws r w i s d
-walk_found k rs ws r w l i s d e = found_of (operand k) rs ws r w _ l (sound_all k _ _ r w) i s d e
-
-pub walk_lost : (o : Option Tree) → Not ≡ walked o → o ≡ nothing
+pub walk_lost : (o : Maybe Tree) → None ≡ walked o → o ≡ nothing
 walk_lost nothing e = refl
 walk_lost (just x) e = impossible (cc)
 
--- an index stands at row r and word w, and what is behind it at r₁ and w₁
-pub record Reached (o : Option Tree) (rs ws : List ℕ) (r w r₁ w₁ d : ℕ) : Type 0 where
+-- an index stands at a place of two pools, with so many dwords and another place behind it
+pub record Reached (o : Maybe Tree) (rs ws : List ℕ) (p : Place) (s : Step) : Type 0 where
   pub tree : Tree
   pub is : o ≡ just tree
-  pub row_is : r + tree_rows tree ≡ r₁
-  pub word_is : w + length (tree_words tree) ≡ w₁
-  pub dwords_are : length (dwords tree) ≡ d
-  pub rows_fit : 16 * r₁ ≤ length rs
-  pub words_fit : length (tree_words tree) ≤ length ws - w
-  pub few : d ≤ 2 * tree_rows tree + length (tree_words tree)
+  pub row_is : p.row + tree_rows tree ≡ s.end.row
+  pub word_is : p.word + length (tree_words tree) ≡ s.end.word
+  pub dwords_are : length (dwords tree) ≡ s.dwords
+  pub rows_fit : 16 * s.end.row ≤ length rs
+  pub few : s.dwords ≤ length rs + length ws
 
-reached_of : (read : Reader Tree) (rs ws : List ℕ) (r w : ℕ) (o : Option Tree) → 16 * r ≤ length rs → Every (Held read (drop (16 * r) rs) (drop w ws) r w) o → (r₁ w₁ d : ℕ) → To r₁ w₁ d ≡ reached r w o → Reached o rs ws r w r₁ w₁ d
-reached_of read rs ws r w nothing l unmet r₁ w₁ d e = impossible (cc)
-reached_of read rs ws r w (just x) l (met h) r₁ w₁ d e =
-    let f = found_tree read rs ws r w (just x) x l refl h in
-    let er : r + tree_rows x ≡ r₁ = cc in
-    let ew : w + length (tree_words x) ≡ w₁ = cc in
-    let ed : length (dwords x) ≡ d = cc in
-    record { tree = x; is = refl; row_is = er; word_is = ew; dwords_are = ed; rows_fit = rw er at f.rows_fit; words_fit = f.words_fit; few = omega (arith, f.few) }
+reached_of : (read : Reader Tree) (rs ws : List ℕ) (p : Place) (o : Maybe Tree) → 16 * p.row ≤ length rs → Every (Held read (drop (16 * p.row) rs) (drop p.word ws) p.row p.word) o → {s : Step} → Some s ≡ reached p o → Reached o rs ws p s
+reached_of read rs ws p nothing l unmet e = impossible (cc)
+reached_of read rs ws p (just t) l (met h) {s} e =
+    let f = found_of read rs ws p.row p.word (just t) l (met h) refl in
+    let g : record { end = record { row = p.row + tree_rows t; word = p.word + length (tree_words t) }; dwords = length (dwords t) } ≡ s = cc in
+    rw (← g)
+    record {
+      tree = t;
+      is = refl;
+      row_is = refl;
+      word_is = refl;
+      dwords_are = refl;
+      rows_fit = f.rows_fit;
+      few = omega (arith, f.rows_fit, f.words_fit, f.few);
+    }
 
-pub index_reached : (k i : ℕ) (rs ws : List ℕ) (r w : ℕ) → 16 * r ≤ length rs → (r₁ w₁ d : ℕ) → To r₁ w₁ d ≡ reached r w (there (confirm_index (confirm k) i) rs ws r w) →
-    Reached (there (confirm_index (confirm k) i) rs ws r w) rs ws r w r₁ w₁ d
-index_reached k i rs ws r w l r₁ w₁ d e = reached_of (read_index (operand k) i) rs ws r w _ l (sound_index (confirm k) (operand k) (sound_all k) i _ _ r w) r₁ w₁ d e
+pub index_reached : (k i : ℕ) (rs ws : List ℕ) (p : Place) → 16 * p.row ≤ length rs → {s : Step} → Some s ≡ reached p (there (confirm_index (confirm k) i) rs ws p.row p.word) → Reached (there (confirm_index (confirm k) i) rs ws p.row p.word) rs ws p s
+index_reached k i rs ws p l e = reached_of (read_index (operand k) i) rs ws p _ l (sound_index (confirm k) (operand k) (sound_all k) i _ _ p.row p.word) e
 
-pub reached_few : {o : Option Tree} {rs ws : List ℕ} {r w r₁ w₁ d : ℕ} → Reached o rs ws r w r₁ w₁ d → d ≤ length rs + length ws
-reached_few f = omega (arith, f.row_is, f.rows_fit, f.words_fit, f.few)
-
-pub index_lost : (r w : ℕ) (o : Option Tree) → Off ≡ reached r w o → o ≡ nothing
-index_lost r w nothing e = refl
-index_lost r w (just x) e = impossible (cc)
+pub index_lost : (p : Place) (o : Maybe Tree) → None ≡ reached p o → o ≡ nothing
+index_lost p nothing e = refl
+index_lost p (just x) e = impossible (cc)

@@ -8,4 +8,3 @@ pub mod Fields
 pub mod SameRows
 pub mod Found
 pub mod Walks
-pub mod Told

@@ -1,55 +1,40 @@
 // Walks operand rows and words that anybody may have written, the general way, and tells whether they are those of an operand.
 #![tactic(auto)]
 
-ghost use Rattle.std.specs.Prelude.{◌≡◌, [], ◌∷◌, ◌+◌, ◌-◌, ◌*◌, ◌^◌, ◌<◌, ◌≤◌, length, get_or, take, drop, ltb};
+ghost use Rattle.std.specs.Prelude.{◌≡◌, [], ◌∷◌, ◌+◌, ◌-◌, ◌*◌, ◌^◌, ◌<◌, ◌≤◌, length, get_or, take, drop, option_to_list};
 ghost use Rattle.format.specs.Operands as op;
 ghost use Rattle.format.specs.Rows as rows;
 ghost use Rattle.format.specs.Encoder as e;
 ghost use Rattle.operand_deep.specs.Confirm as c;
 ghost use Rattle.operand_deep.specs.Walks as w;
 
-// The rows, words and dwords of the operand that stands there; or these are not the rows and words of one.
-#[derive(Drop)]
-pub enum Walked {
-    Is {
-        rows: usize,
-        words: usize,
-        dwords: usize,
-    },
-    Not,
+// The rows, words and dwords of an operand.
+#[derive(Clone, Copy)]
+pub struct Walked {
+    pub rows: usize,
+    pub words: usize,
+    pub dwords: usize,
 }
 
-// The row and the word behind an index, and its dwords; or there is no such index.
-#[derive(Drop)]
-enum Step {
-    To(usize, usize, usize),
-    Off,
+// A row and a word of the pools.
+#[derive(Clone, Copy)]
+struct Place {
+    row: usize,
+    word: usize,
 }
 
-// The row and the word where an index stands.
-#[derive(Clone, Copy, Drop)]
-struct Place(usize, usize);
-
-// The dword and the extension, 0 for none, that a row would be of, both exact; or it is of none.
-#[derive(Drop)]
-enum Guess {
-    Of { token: u32, extension: u32 },
-    No,
+// The place behind an index, and its dwords.
+#[derive(Clone, Copy)]
+struct Step {
+    end: Place,
+    dwords: usize,
 }
 
-// Widens a number to a size.
-pub fn wide(x: u32) -> usize
-    ensures value { result ≡ x }
-    ensures small { result < 2 ^ 32 }
-{
-    x as usize
-}
-
-// Widens a number, so that a sum of shifted numbers fits.
-pub fn long(x: u32) -> u64
-    ensures { result ≡ x }
-{
-    x as u64
+// The dword that a row would be of, and its extension if it has one, both exact.
+#[derive(Clone, Copy)]
+struct Guess {
+    token: u32,
+    extension: Option<u32>,
 }
 
 // Joins two neighbours, so that they are compared at once.
@@ -57,15 +42,7 @@ pub fn pair(a: u32, b: u32) -> u64
     ensures value { result ≡ a + b * 2 ^ 32 }
     ensures low { a < 2 ^ 32 }
 {
-    long(a) + long(b) * 0x1_0000_0000
-}
-
-// Narrows a number that fits.
-fn narrow(x: u64) -> u32
-    requires { x < 2 ^ 32 }
-    ensures { result ≡ x }
-{
-    x as u32
+    u64::from(a) + u64::from(b) * 0x1_0000_0000
 }
 
 // Gives bits 0-3 of an operand's dword, by its form.
@@ -82,95 +59,82 @@ fn low(form: u32) -> u64
     }
 }
 
-// Makes the extension of some modifiers, 0 for none. Modifiers that no reader tells give one that is not exact, or that
+// Makes the extension of some modifiers, if there are any. Modifiers that no reader tells give one that is not exact, or that
 // has other modifiers.
-fn extension(m: u32) -> u64
-    ensures { w.extensions result ≡ e.extension_of m }
+fn extension(m: u32) -> Option<u64>
+    ensures { option_to_list result ≡ e.extension_of m }
 {
     if m == 0 {
-        return 0;
+        return None;
     }
-    1 + long(m % 4) * 0x40 + long(m / 16) * 0x4000 + long(m / 4 % 2) * 0x2_0000
+    Some(1 + u64::from(m % 4) * 0x40 + u64::from(m / 16) * 0x4000 + u64::from(m / 4 % 2) * 0x2_0000)
 }
 
 // Makes an operand's dword from the numbers of its row and its extension. It is no dword where the numbers are too large.
-fn pack(form: u32, selection: u32, kind: u32, dimension: u32, reprs: u32, extension: u64) -> u64
-    ensures { result ≡ op.dword_with form selection kind dimension reprs (length (w.extensions extension)) }
+fn pack(row: &[u32; 16], extension: Option<u64>) -> u64
+    ensures { result ≡ op.dword_with (e.at 1 row.now) (e.at 2 row.now) (e.at 0 row.now) (e.at 6 row.now) (e.at 7 row.now) (length (option_to_list extension)) }
 {
-    let t = low(form)
-        + long(selection) * 0x10
-        + long(kind) * 0x1000
-        + long(dimension) * 0x10_0000
-        + long(reprs) * 0x40_0000;
-    if extension == 0 { t } else { t + 0x8000_0000 }
+    let t = low(row[1])
+        + u64::from(row[2]) * 0x10
+        + u64::from(row[0]) * 0x1000
+        + u64::from(row[6]) * 0x10_0000
+        + u64::from(row[7]) * 0x40_0000;
+    match extension {
+        Some(_) => t + 0x8000_0000,
+        None => t,
+    }
 }
 
 // Takes a dword and an extension where they are exact.
-fn exact(t: u64, x: u64) -> Guess
-    ensures { result ≡ w.guessed t (w.extensions x) }
+fn exact(t: u64, x: Option<u64>) -> Option<Guess>
+    ensures { result ≡ w.guessed t (option_to_list x) }
 {
-    if t >= 0x1_0000_0000 {
-        return Guess::No;
-    }
-    let token = narrow(t);
+    let token = u32::try_from(t).ok()?;
     if !tokens::exact_dword(token) {
-        return Guess::No;
+        return None;
     }
-    if x == 0 {
-        return Guess::Of {
+    let Some(x) = x else {
+        return Some(Guess {
             token,
-            extension: 0,
-        };
+            extension: None,
+        });
+    };
+    let x = u32::try_from(x).ok()?;
+    if !tokens::exact_extension(x) {
+        return None;
     }
-    if x >= 0x1_0000_0000 {
-        return Guess::No;
-    }
-    let extension = narrow(x);
-    if tokens::exact_extension(extension) {
-        return Guess::Of { token, extension };
-    }
-    Guess::No
+    Some(Guess {
+        token,
+        extension: Some(x),
+    })
 }
 
-// Guesses what the row at a place is of.
-fn front(operands: &[u32], at: usize) -> Guess
-    requires { at + 16 ≤ length operands.now }
-    ensures { result ≡ w.guessed (e.operand_dword (take 16 (drop at operands.now))) (e.extension_of (e.at 3 (take 16 (drop at operands.now)))) }
+// Guesses what a row is of.
+fn front(row: &[u32; 16]) -> Option<Guess>
+    ensures { result ≡ w.guessed (e.operand_dword row.now) (e.extension_of (e.at 3 row.now)) }
 {
-    let x = extension(operands[at + 3]);
-    let t = pack(
-        operands[at + 1],
-        operands[at + 2],
-        operands[at],
-        operands[at + 6],
-        operands[at + 7],
-        x,
-    );
-    exact(t, x)
+    let x = extension(row[3]);
+    exact(pack(row, x), x)
 }
 
-// Counts the dwords that an extension takes.
-fn count(x: u32) -> usize
-    ensures { result ≡ length (w.extensions x) }
-{
-    if x == 0 { 0 } else { 1 }
-}
-
-// Gives the modifiers that the reader tells of an extension.
-fn modifiers(x: u32) -> u32
-    ensures { result ≡ op.modifiers (w.extensions x) }
-{
-    if x == 0 {
-        return 0;
+impl Guess {
+    // Counts the dwords that the token and its extension take.
+    fn dwords(self) -> usize
+        ensures value { result ≡ 1 + length (option_to_list self.extension) }
+        ensures few { result ≤ 2 }
+    {
+        1 + usize::from(self.extension.is_some())
     }
-    tokens::modifiers(x)
-}
 
-// Counts what stands behind a place, which may be past the end.
-fn behind(n: usize, at: usize) -> usize
-    ensures { result ≡ n - at }
-{
-    if n < at { 0 } else { n - at }
+    // Gives the modifiers that the reader tells of the extension.
+    fn modifiers(self) -> u32
+        ensures { result ≡ op.modifiers (option_to_list self.extension) }
+    {
+        match self.extension {
+            Some(x) => tokens::modifiers(x),
+            None => 0,
+        }
+    }
 }
 
 // Gives a place, or 0 if it is not used.
@@ -180,166 +144,152 @@ fn placed(used: bool, p: usize) -> usize
     if used { p } else { 0 }
 }
 
-// Gives the place of some words, or 0 if there are none.
-fn place_of(n: usize, p: usize) -> usize
-    ensures { result ≡ rows.placed (ltb 0 n) p }
+// Tells whether a row begins with the numbers of a guess and m immediates at a word.
+fn same_front(row: &[u32; 16], guess: Guess, word: usize, m: usize) -> bool
+    ensures { result ≡ e.same (take 8 row.now) (w.front_for guess.token (op.modifiers (option_to_list guess.extension)) word m) }
 {
-    if 0 < n { p } else { 0 }
-}
-
-// Tells whether a row begins with the numbers of a dword, an extension and m immediates at a place.
-fn same_front(q: &[u32], t: u32, x: u32, i: usize, m: usize) -> bool
-    requires { 16 ≤ length q.now }
-    ensures { result ≡ e.same (take 8 q.now) (w.front_for t (op.modifiers (w.extensions x)) i m) }
-{
-    (q[0] == tokens::type_of(t))
-        & (q[1] == tokens::form(t))
-        & (q[2] == tokens::selection(t))
-        & (q[3] == modifiers(x))
-        & (wide(q[4]) == place_of(m, i))
-        & (wide(q[5]) == m)
-        & (q[6] == tokens::dimension(t))
-        & (q[7] == tokens::reprs(t))
+    let t = guess.token;
+    (row[0] == tokens::type_of(t))
+        & (row[1] == tokens::form(t))
+        & (row[2] == tokens::selection(t))
+        & (row[3] == guess.modifiers())
+        & (row[4] as usize == placed(0 < m, word))
+        & (row[5] as usize == m)
+        & (row[6] == tokens::dimension(t))
+        & (row[7] == tokens::reprs(t))
 }
 
 // Tells whether a row ends with the places of three indices, and so many rows and dwords.
-fn same_back(q: &[u32], t: u32, a: Place, b: Place, c: Place, rows: usize, dwords: usize) -> bool
-    requires { 16 ≤ length q.now }
-    ensures { result ≡ e.same (take 8 (drop 8 q.now)) (w.back_for t a b c rows dwords) }
+fn same_back(
+    row: &[u32; 16],
+    t: u32,
+    a: Place,
+    b: Place,
+    c: Place,
+    rows: usize,
+    dwords: usize,
+) -> bool
+    ensures { result ≡ e.same (take 8 (drop 8 row.now)) (w.back_for t a b c rows dwords) }
 {
     let i = tokens::repr(0, t);
     let j = tokens::repr(1, t);
     let k = tokens::repr(2, t);
-    (wide(q[8]) == place_of(tokens::own(i), a.1))
-        & (wide(q[9]) == place_of(tokens::own(j), b.1))
-        & (wide(q[10]) == place_of(tokens::own(k), c.1))
-        & (wide(q[11]) == placed(tokens::nests(i), a.0))
-        & (wide(q[12]) == placed(tokens::nests(j), b.0))
-        & (wide(q[13]) == placed(tokens::nests(k), c.0))
-        & (wide(q[14]) == rows)
-        & (wide(q[15]) == dwords)
+    (row[8] as usize == placed(0 < tokens::own(i), a.word))
+        & (row[9] as usize == placed(0 < tokens::own(j), b.word))
+        & (row[10] as usize == placed(0 < tokens::own(k), c.word))
+        & (row[11] as usize == placed(tokens::nests(i), a.row))
+        & (row[12] as usize == placed(tokens::nests(j), b.row))
+        & (row[13] as usize == placed(tokens::nests(k), c.row))
+        & (row[14] as usize == rows)
+        & (row[15] as usize == dwords)
 }
 
-// Walks an operand of immediates, whose front is guessed from its row.
-fn leaf(
-    operands: &[u32],
-    words: &[u32],
-    row: usize,
-    word: usize,
-    token: u32,
-    extension: u32,
-) -> Walked
-    requires { 16 * row + 16 ≤ length operands.now }
-    ensures { result ≡ w.walked (c.confirm_immediates (w.row_at row operands.now) token (w.extensions extension) (drop word words.now) row word) }
+// Walks an operand of immediates, which was guessed from its row.
+fn leaf(numbers: &[u32; 16], guess: Guess, words: &[u32], row: usize, word: usize) -> Option<Walked>
+    requires { row + 1 < 2 ^ 64 }
+    ensures { result ≡ w.walked (c.confirm_immediates numbers.now guess.token (option_to_list guess.extension) (drop word words.now) row word) }
 {
-    if tokens::dimension(token) != 0 {
-        return Walked::Not;
+    if tokens::dimension(guess.token) != 0 {
+        return None;
     }
-    let m = tokens::immediates(token);
-    if behind(words.len(), word) < m {
-        return Walked::Not;
+    let m = tokens::immediates(guess.token);
+    if words.len().saturating_sub(word) < m {
+        return None;
     }
-    let n = 1 + count(extension) + m;
-    let q = &operands[16 * row..];
-    if !same_front(q, token, extension, word, m) {
-        return Walked::Not;
+    if !same_front(numbers, guess, word, m) {
+        return None;
     }
-    let end = Place(row + 1, word + m);
-    if !same_back(q, token, end, end, end, 1, n) {
-        return Walked::Not;
+    let end = Place {
+        row: row + 1,
+        word: word + m,
+    };
+    let dwords = guess.dwords() + m;
+    if !same_back(numbers, guess.token, end, end, end, 1, dwords) {
+        return None;
     }
-    Walked::Is {
+    Some(Walked {
         rows: 1,
         words: m,
-        dwords: n,
-    }
+        dwords,
+    })
 }
 
-// Walks an index of a representation, whose operand, if it has one, stands at a row, and whose words at a word.
+// Walks an index of a representation, whose operand, if it has one, stands at a place's row, and whose words at its word.
 #[cycle(deep_index_tree)]
-fn index(operands: &[u32], words: &[u32], row: usize, word: usize, r: u32, left: usize) -> Step
-    requires { (0 < left) × (16 * row ≤ length operands.now) }
-    ensures { result ≡ w.reached row word (w.there (c.confirm_index (c.confirm (left - 1)) r) operands.now words.now row word) }
+fn index(operands: &[u32], words: &[u32], at: Place, r: u32, left: usize) -> Option<Step>
+    requires { (0 < left) × (16 * at.row ≤ length operands.now) }
+    ensures { result ≡ w.reached at (w.there (c.confirm_index (c.confirm (left - 1)) r) operands.now words.now at.row at.word) }
 {
     if !tokens::known(r) {
-        return Step::Off;
+        return None;
     }
     let own = tokens::own(r);
-    if behind(words.len(), word) < own {
-        return Step::Off;
+    if words.len().saturating_sub(at.word) < own {
+        return None;
     }
-    let place = word + own;
+    let word = at.word + own;
     if !tokens::nests(r) {
-        return Step::To(row, place, own);
+        let end = Place { row: at.row, word };
+        return Some(Step { end, dwords: own });
     }
-    let Walked::Is {
-        rows,
-        words: n,
-        dwords,
-    } = deep(operands, words, row, place, left - 1)
-    else {
-        return Step::Off;
-    };
-    Step::To(row + rows, place + n, own + dwords)
+    let child = deep(operands, words, at.row, word, left - 1)?;
+    Some(Step {
+        end: Place {
+            row: at.row + child.rows,
+            word: word + child.words,
+        },
+        dwords: own + child.dwords,
+    })
 }
 
-// Walks an operand by its indices, one after the other, and compares its row; its front is guessed from that row.
+// Walks an operand by its indices, one after the other, and compares its row, from which it was guessed.
 #[cycle(deep_index_tree)]
 fn tree(
     operands: &[u32],
     words: &[u32],
-    row: usize,
-    word: usize,
-    token: u32,
-    extension: u32,
+    numbers: &[u32; 16],
+    guess: Guess,
+    at: Place,
     left: usize,
-) -> Walked
-    requires { (0 < left) × (16 * row + 16 ≤ length operands.now) }
-    ensures { result ≡ w.walked (c.confirm_indices (c.confirm (left - 1)) (w.row_at row operands.now) token (w.extensions extension) (drop (16 * (row + 1)) operands.now) (drop word words.now) row word) }
+) -> Option<Walked>
+    requires { (0 < left) × (16 * at.row + 16 ≤ length operands.now) }
+    ensures { result ≡ w.walked (c.confirm_indices (c.confirm (left - 1)) numbers.now guess.token (option_to_list guess.extension) (drop (16 * (at.row + 1)) operands.now) (drop at.word words.now) at.row at.word) }
 {
-    let r0 = row + 1;
-    let Step::To(r1, w1, d0) = index(operands, words, r0, word, tokens::repr(0, token), left) else {
-        return Walked::Not;
+    let t = guess.token;
+    let first = Place {
+        row: at.row + 1,
+        word: at.word,
     };
-    let Step::To(r2, w2, d1) = index(operands, words, r1, w1, tokens::repr(1, token), left) else {
-        return Walked::Not;
-    };
-    let Step::To(r3, w3, d2) = index(operands, words, r2, w2, tokens::repr(2, token), left) else {
-        return Walked::Not;
-    };
-    let rows = r3 - row;
-    let dwords = 1 + count(extension) + d0 + d1 + d2;
-    let q = &operands[16 * row..];
-    if !same_front(q, token, extension, word, 0) {
-        return Walked::Not;
+    let a = index(operands, words, first, tokens::repr(0, t), left)?;
+    let b = index(operands, words, a.end, tokens::repr(1, t), left)?;
+    let c = index(operands, words, b.end, tokens::repr(2, t), left)?;
+    if !same_front(numbers, guess, at.word, 0) {
+        return None;
     }
-    let first = Place(r0, word);
-    if !same_back(q, token, first, Place(r1, w1), Place(r2, w2), rows, dwords) {
-        return Walked::Not;
+    let rows = c.end.row - at.row;
+    let dwords = guess.dwords() + a.dwords + b.dwords + c.dwords;
+    if !same_back(numbers, t, first, a.end, b.end, rows, dwords) {
+        return None;
     }
-    Walked::Is {
+    Some(Walked {
         rows,
-        words: w3 - word,
+        words: c.end.word - at.word,
         dwords,
-    }
+    })
 }
 
-// Walks any operand. Its children are walked in reading order, never by the rows that point to them.
+// Walks any operand, with so many depths left. Its children are walked in reading order, never by the rows that point to them.
 #[cycle(deep_index_tree)]
-pub fn deep(operands: &[u32], words: &[u32], row: usize, word: usize, left: usize) -> Walked
+pub fn deep(operands: &[u32], words: &[u32], row: usize, word: usize, left: usize) -> Option<Walked>
     ensures { result ≡ w.walked (c.confirm left (drop (16 * row) operands.now) (drop word words.now) row word) }
 {
     if left == 0 {
-        return Walked::Not;
+        return None;
     }
-    if operands.len() / 16 <= row {
-        return Walked::Not;
+    let numbers = operands.as_chunks::<16>().0.get(row)?;
+    let guess = front(numbers)?;
+    if tokens::immediate(guess.token) {
+        return leaf(numbers, guess, words, row, word);
     }
-    let Guess::Of { token, extension } = front(operands, 16 * row) else {
-        return Walked::Not;
-    };
-    if tokens::immediate(token) {
-        return leaf(operands, words, row, word, token, extension);
-    }
-    tree(operands, words, row, word, token, extension, left)
+    tree(operands, words, numbers, guess, Place { row, word }, left)
 }

@@ -1,21 +1,27 @@
-use Rattle.operand_deep.proofs.Fields.{no_wide, no_dword, of_none, no_long, of_one, no_extension}
-use Rattle.std.proofs.Common.{ap, not}
+use Rattle.std.proofs.Common.{rules}
+use Rattle.format.specs.Operands as op
+use Rattle.operand_deep.specs.Walks.{guessed}
+use Rattle.operand_deep.proofs.Fields.{no_token, no_extension}
 use Rattle.operand_deep.proofs.exact.Goals as goal
 
-pub returns-then-t-ge4294967296 : goal.returns-then-t-ge4294967296
-returns-then-t-ge4294967296 c = no_wide _ _ c.if-t-ge4294967296.true
+pub returns-in_err-token : goal.returns-in_err-token
+returns-in_err-token c = search (rules, no_token)
 
 pub returns-then-not-exact_dword : goal.returns-then-not-exact_dword
-returns-then-not-exact_dword c = no_dword _ _ _ c.narrow-token.ensures _ c.exact_dword.ensures (ap not c.if-not-exact_dword.true)
+unfolding guessed
+returns-then-not-exact_dword c = search rules
 
-pub returns-then-x-eq0 : goal.returns-then-x-eq0
-returns-then-x-eq0 c = of_none _ _ _ c.narrow-token.ensures _ c.exact_dword.ensures (ap not c.if-not-exact_dword.false) c.if-x-eq0.true
+pub returns-in_default : goal.returns-in_default
+unfolding guessed op.exact_extension
+returns-in_default c = search rules
 
-pub returns-then-x-ge4294967296 : goal.returns-then-x-ge4294967296
-returns-then-x-ge4294967296 c = no_long _ _ _ c.narrow-token.ensures _ c.exact_dword.ensures (ap not c.if-not-exact_dword.false) c.if-x-eq0.false c.if-x-ge4294967296.true
+pub returns-in_err-x : goal.returns-in_err-x
+returns-in_err-x c = search (rules, no_extension)
 
-pub returns-then-exact_extension : goal.returns-then-exact_extension
-returns-then-exact_extension c = of_one _ _ _ c.narrow-token.ensures _ c.exact_dword.ensures (ap not c.if-not-exact_dword.false) c.if-x-eq0.false _ c.narrow-extension.ensures _ c.exact_extension.ensures c.if-exact_extension.true
+pub returns-then-not-exact_extension : goal.returns-then-not-exact_extension
+unfolding guessed
+returns-then-not-exact_extension c = search rules
 
 pub returns : goal.returns
-returns c = no_extension _ _ _ c.narrow-token.ensures _ c.exact_dword.ensures (ap not c.if-not-exact_dword.false) c.if-x-eq0.false _ c.narrow-extension.ensures _ c.exact_extension.ensures c.if-exact_extension.false
+unfolding guessed
+returns c = search rules

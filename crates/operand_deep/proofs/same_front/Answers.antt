@@ -1,5 +1,8 @@
-use Rattle.operand_deep.proofs.SameRows.{front_is}
+use Rattle.operand_deep.specs.Walks.{front_for}
+use Rattle.std.proofs.Common.{arith}
+use Rattle.operand_deep.proofs.SameRows.{same_first}
 use Rattle.operand_deep.proofs.same_front.Goals as goal
 
 pub returns : goal.returns
-returns c = let a = c.args in front_is a.q.now c.requires a.t a.x a.i a.m c.type_of.ensures c.form.ensures c.selection.ensures c.modifiers.ensures c.wide.ensures.value c.place_of.ensures c.wide-2.ensures.value c.dimension.ensures c.reprs.ensures
+unfolding front_for
+returns c = rw (c.type_of.ensures, c.form.ensures, c.selection.ensures, c.modifiers.ensures, c.placed.ensures, c.dimension.ensures, c.reprs.ensures) (same_first c.args.row.now (omega arith) _ _ _ _ _ _ _ _)
