@@ -19,6 +19,28 @@ row_for t x w₀ w₁ w₂ r₀ r₁ r₂ rows ds =
     word_place (repr 0 t) w₀ ∷ word_place (repr 1 t) w₁ ∷ word_place (repr 2 t) w₂ ∷
     child_row (repr 0 t) r₀ ∷ child_row (repr 1 t) r₁ ∷ child_row (repr 2 t) r₂ ∷ rows ∷ ds ∷ []
 
+-- with no operand in it, and without the numbers of its immediates or indices; its dwords
+abbrev pub lone : ℕ → ℕ → ℕ → Row
+lone t x ds =
+    record {
+      kind = type_of t;
+      form = form t;
+      selection = selection t;
+      modifiers = x;
+      imm = 0;
+      imms = 0;
+      dimension = 0;
+      reprs = 0;
+      w0 = 0;
+      w1 = 0;
+      w2 = 0;
+      c0 = 0;
+      c1 = 0;
+      c2 = 0;
+      rows = 1;
+      dwords = ds;
+    }
+
 -- with no operand in it: m immediates at i, d indices of one dword
 abbrev pub lone_row : ℕ → ℕ → ℕ → ℕ → ℕ → ℕ → ℕ → ℕ → ℕ → List ℕ
 lone_row t x i m d w₀ w₁ w₂ ds =

@@ -35,27 +35,38 @@ pub struct Row {
     dwords: u32,
 }
 
+impl Row {
+    // The sixteen numbers of the row.
+    pub fn words(self) -> [u32; 16]
+        ensures { result ≡ w.listed self }
+    {
+        [
+            self.kind,
+            self.form,
+            self.selection,
+            self.modifiers,
+            self.imm,
+            self.imms,
+            self.dimension,
+            self.reprs,
+            self.w0,
+            self.w1,
+            self.w2,
+            self.c0,
+            self.c1,
+            self.c2,
+            self.rows,
+            self.dwords,
+        ]
+    }
+}
+
 // Stores a row at the front of a pool.
-pub fn put_row(ops: &mut [u32], r: Row)
-    requires { 16 ≤ length ops.old }
-    ensures { ops.new ≡ w.listed r ++ drop 16 ops.old }
+pub fn put_row(pool: &mut [u32], row: [u32; 16])
+    requires { 16 ≤ length pool.old }
+    ensures { pool.new ≡ row ++ drop 16 pool.old }
 {
-    ops[0] = r.kind;
-    ops[1] = r.form;
-    ops[2] = r.selection;
-    ops[3] = r.modifiers;
-    ops[4] = r.imm;
-    ops[5] = r.imms;
-    ops[6] = r.dimension;
-    ops[7] = r.reprs;
-    ops[8] = r.w0;
-    ops[9] = r.w1;
-    ops[10] = r.w2;
-    ops[11] = r.c0;
-    ops[12] = r.c1;
-    ops[13] = r.c2;
-    ops[14] = r.rows;
-    ops[15] = r.dwords;
+    pool[..16].copy_from_slice(&row);
 }
 
 // Copies n dwords of a part, from a place on, to the front of a pool.
@@ -63,34 +74,9 @@ pub fn copy(part: &[u8], at: usize, n: usize, words: &mut [u32])
     requires { (at + n ≤ length (dwords_of part.now)) × (n ≤ length words.old) }
     ensures { words.new ≡ take n (drop at (dwords_of part.now)) ++ drop n words.old }
 {
-    let mut i = 0;
-    while i < n {
-        words[i] = tokens::dword(part, at + i);
-        i += 1;
+    for (i, word) in words[..n].iter_mut().enumerate() {
+        *word = tokens::dword(part, at + i);
     }
-}
-
-// Copies four dwords at most, one by one.
-fn copy_few(part: &[u8], at: usize, n: usize, words: &mut [u32])
-    requires { (at + n ≤ length (dwords_of part.now)) × (n ≤ length words.old) × (n ≤ 4) }
-    ensures { words.new ≡ take n (drop at (dwords_of part.now)) ++ drop n words.old }
-{
-    if n == 0 {
-        return;
-    }
-    words[0] = tokens::dword(part, at);
-    if n == 1 {
-        return;
-    }
-    words[1] = tokens::dword(part, at + 1);
-    if n == 2 {
-        return;
-    }
-    words[2] = tokens::dword(part, at + 2);
-    if n == 3 {
-        return;
-    }
-    words[3] = tokens::dword(part, at + 3);
 }
 
 // A place, if it is used.
@@ -137,180 +123,98 @@ pub fn make_row(
     }
 }
 
-// The row of an operand with no operand in it: i is the place of its immediates, of which there are m.
-fn lone_row(
-    token: u32,
-    modifiers: u32,
-    i: u32,
-    m: u32,
-    dimension: u32,
-    w0: u32,
-    w1: u32,
-    w2: u32,
-    dwords: u32,
-) -> Row
-    ensures { w.listed result ≡ w.lone_row token modifiers i m dimension w0 w1 w2 dwords }
+// The row of an operand with no operand in it, and without the numbers of its immediates or indices.
+fn lone_row(token: u32, modifiers: u32, dwords: u32) -> Row
+    ensures { result ≡ w.lone token modifiers dwords }
 {
     Row {
         kind: tokens::type_of(token),
         form: tokens::form(token),
         selection: tokens::selection(token),
         modifiers,
-        imm: i,
-        imms: m,
-        dimension,
-        reprs: 0,
-        w0,
-        w1,
-        w2,
-        c0: 0,
-        c1: 0,
-        c2: 0,
-        rows: 1,
-        dwords,
-    }
-}
-
-// The row of an operand whose dword is exact, with one index of one dword and no extensions.
-fn short_row(token: u32, w0: u32) -> Row
-    requires { op.exact_dword token ≡ true }
-    ensures { w.listed result ≡ w.lone_row token 0 0 0 1 w0 0 0 2 }
-{
-    Row {
-        kind: tokens::type_of(token),
-        form: tokens::form(token),
-        selection: token / 16 % 256,
-        modifiers: 0,
         imm: 0,
         imms: 0,
-        dimension: 1,
+        dimension: 0,
         reprs: 0,
-        w0,
+        w0: 0,
         w1: 0,
         w2: 0,
         c0: 0,
         c1: 0,
         c2: 0,
         rows: 1,
-        dwords: 2,
-    }
-}
-
-// Writes an operand of immediates, whose front is read.
-pub fn leaf(
-    part: &[u8],
-    at: usize,
-    token: u32,
-    body: usize,
-    modifiers: u32,
-    ops: &mut [u32],
-    words: &mut [u32],
-    word: usize,
-) -> Sums
-    requires { w.Lone (length (dwords_of part.now)) at body (op.immediates token) (length ops.old) (length words.old) word }
-    ensures { w.Stored (dwords_of part.now) at body (op.immediates token) (w.leaf_row token modifiers word (body - at + op.immediates token)) ops.old words.old result ops.new words.new }
-{
-    let n = tokens::immediates(token);
-    copy_few(part, body, n, words);
-    let dwords = body - at + n;
-    let place = placed(0 < n, word);
-    put_row(
-        ops,
-        lone_row(token, modifiers, place, n as u32, 0, 0, 0, 0, dwords as u32),
-    );
-    Sums {
-        rows: 1,
-        words: n,
         dwords,
     }
 }
 
-// Writes an operand whose indices are one dword each, whose front is read.
-pub fn flat(
-    part: &[u8],
-    at: usize,
-    token: u32,
-    body: usize,
-    modifiers: u32,
-    ops: &mut [u32],
-    words: &mut [u32],
-    word: usize,
-) -> Sums
-    requires { w.Lone (length (dwords_of part.now)) at body (op.dimension token) (length ops.old) (length words.old) word }
-    ensures { w.Stored (dwords_of part.now) at body (op.dimension token) (w.flat_row token modifiers word (body - at + op.dimension token)) ops.old words.old result ops.new words.new }
-{
-    let d = tokens::dimension(token);
-    let n = d as usize;
-    copy_few(part, body, n, words);
-    let dwords = body - at + n;
-    let w0 = placed(0 < n, word);
-    let w1 = placed(1 < n, word + 1);
-    let w2 = placed(2 < n, word + 2);
-    put_row(
-        ops,
-        lone_row(token, modifiers, 0, 0, d, w0, w1, w2, dwords as u32),
-    );
-    Sums {
-        rows: 1,
-        words: n,
-        dwords,
-    }
+// The front of an operand that stands at a place of its part: its dword, the place behind its extensions, and the modifiers that they hold.
+#[derive(Drop)]
+pub struct Front<'a> {
+    pub part: &'a [u8],
+    pub at: usize,
+    pub token: u32,
+    pub body: usize,
+    pub modifiers: u32,
 }
 
-// Writes an operand whose dword is exact, with one index of one dword and no extensions.
-pub fn single(
-    part: &[u8],
-    at: usize,
-    token: u32,
-    ops: &mut [u32],
-    words: &mut [u32],
-    word: usize,
-) -> Sums
-    requires { (op.dimension token ≡ 1) × (op.exact_dword token ≡ true) × w.Lone (length (dwords_of part.now)) at (at + 1) (op.dimension token) (length ops.old) (length words.old) word }
-    ensures { w.Stored (dwords_of part.now) at (at + 1) (op.dimension token) (w.flat_row token 0 word (at + 1 - at + op.dimension token)) ops.old words.old result ops.new words.new }
-{
-    words[0] = tokens::dword(part, at + 1);
-    put_row(ops, short_row(token, word as u32));
-    Sums {
-        rows: 1,
-        words: 1,
-        dwords: 2,
+impl<'a> Front<'a> {
+    // Writes an operand of immediates.
+    pub fn leaf(&self, ops: &mut [u32], words: &mut [u32], word: usize) -> Sums
+        requires { w.Lone (length (dwords_of self.now.part.now)) self.now.at self.now.body (op.immediates self.now.token) (length ops.old) (length words.old) word }
+        ensures { w.Stored (dwords_of self.now.part.now) self.now.at self.now.body (op.immediates self.now.token) (w.leaf_row self.now.token self.now.modifiers word (self.now.body - self.now.at + op.immediates self.now.token)) ops.old words.old result ops.new words.new }
+    {
+        let n = tokens::immediates(self.token);
+        let dwords = self.body - self.at + n;
+        copy(self.part, self.body, n, words);
+        let row = Row {
+            imm: placed(0 < n, word),
+            imms: n as u32,
+            ..lone_row(self.token, self.modifiers, dwords as u32)
+        };
+        put_row(ops, row.words());
+        Sums {
+            rows: 1,
+            words: n,
+            dwords,
+        }
     }
-}
 
-// Writes an operand with one extension, and behind it one index of one dword.
-pub fn modified(
-    part: &[u8],
-    at: usize,
-    token: u32,
-    ops: &mut [u32],
-    words: &mut [u32],
-    word: usize,
-) -> Sums
-    requires { (op.dimension token ≡ 1) × w.Lone (length (dwords_of part.now)) at (at + 2) (op.dimension token) (length ops.old) (length words.old) word }
-    ensures { w.Stored (dwords_of part.now) at (at + 2) (op.dimension token) (w.flat_row token (op.modifiers (get_or (dwords_of part.now) (at + 1) 0 ∷ [])) word (at + 2 - at + op.dimension token)) ops.old words.old result ops.new words.new }
-{
-    words[0] = tokens::dword(part, at + 2);
-    let x = tokens::modifiers(tokens::dword(part, at + 1));
-    put_row(ops, lone_row(token, x, 0, 0, 1, word as u32, 0, 0, 3));
-    Sums {
-        rows: 1,
-        words: 1,
-        dwords: 3,
+    // Writes an operand whose indices are one dword each.
+    pub fn flat(&self, ops: &mut [u32], words: &mut [u32], word: usize) -> Sums
+        requires { w.Lone (length (dwords_of self.now.part.now)) self.now.at self.now.body (op.dimension self.now.token) (length ops.old) (length words.old) word }
+        ensures { w.Stored (dwords_of self.now.part.now) self.now.at self.now.body (op.dimension self.now.token) (w.flat_row self.now.token self.now.modifiers word (self.now.body - self.now.at + op.dimension self.now.token)) ops.old words.old result ops.new words.new }
+    {
+        let dimension = tokens::dimension(self.token);
+        let n = dimension as usize;
+        let dwords = self.body - self.at + n;
+        copy(self.part, self.body, n, words);
+        let row = Row {
+            dimension,
+            w0: placed(0 < n, word),
+            w1: placed(1 < n, word + 1),
+            w2: placed(2 < n, word + 2),
+            ..lone_row(self.token, self.modifiers, dwords as u32)
+        };
+        put_row(ops, row.words());
+        Sums {
+            rows: 1,
+            words: n,
+            dwords,
+        }
     }
 }
 
 // Writes the dwords of its own that an index has, behind what is counted.
+#[tactic(auto, using(format::proofs::Dwords::length_dwords))]
 pub fn own_words(part: &[u8], at: usize, r: u32, words: &mut [u32], before: Sums) -> Sums
     requires { w.OwnRoom (length (dwords_of part.now)) at (op.own r) (length words.old) before }
     ensures { w.Owned (dwords_of part.now) at (op.own r) before words.old result words.new }
 {
-    let start = before.words;
     let own = tokens::own(r);
-    copy(part, at + before.dwords, own, &mut words[start..]);
+    copy(part, at + before.dwords, own, &mut words[before.words..]);
     Sums {
-        rows: before.rows,
-        words: start + own,
+        words: before.words + own,
         dwords: before.dwords + own,
+        ..before
     }
 }

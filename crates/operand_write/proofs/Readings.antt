@@ -1,22 +1,21 @@
 -- How a reading that was accepted is taken apart.
-use Prim.Native.Nat.{ℕ, zero, suc, ◌+◌, ◌-◌, ◌/◌, ◌%◌, ◌^◌, ◌<◌, ◌≤◌}
+use Prim.Native.Nat.{ℕ, zero, suc, ◌+◌, ◌-◌, ◌<◌, ◌≤◌}
 use mathlib.Core.Path.{◌≡◌, refl, sym, ◌∙◌, ap}
 use mathlib.Core.Bool.{Bool, true, false}
-use mathlib.Core.List.{List, [], ◌∷◌, ◌++◌}
+use mathlib.Core.List.{List, [], ◌++◌}
+use Rattle.std.specs.Prelude.{Option, Some, None, IsSome}
 use native.Mathlib.Omega.{arith}
 use lib.ListN.{length, get_or, take, drop}
-use lib.Seq.{slice, slice_empty}
+use lib.Seq.{slice}
 use lib.Dec.{ltb, eqb}
-use borrow.Author.Tests.{ltb-true, ltb-false, eqb-true, eq-eqb}
+use borrow.Author.Tests.{ltb-true, ltb-false, eqb-true}
 use Rattle.format.specs.Dwords.{follows, Got, malformed, got, Reader, then, give, chain}
-use Rattle.format.specs.Operands.{Tree, none, plain, node, immediate, immediates, dimension, repr, own, nests, known, read_index, read_immediates, read_indices, operand, dwords, modifiers}
+use Rattle.format.specs.Operands.{Tree, none, plain, node, immediates, dimension, repr, own, nests, known, read_index, read_immediates, read_indices, operand, dwords, modifiers}
 use Rattle.format.proofs.Dwords.{met, Makes, impossible}
 use Rattle.tokens.specs.Chains.{ends}
-use Rattle.tokens.specs.declared.Skip.TheVariants.{To, Off}
-use Rattle.tokens.proofs.Chains.{Going, goes_on, ended, ran_off as off, some_modifiers}
 use Rattle.tokens.proofs.Places.{some_whole, some_short, left_at, read_within, Passed, passed, ran_off}
 use Rattle.operand.specs.Measures.{Flat}
-use Rattle.operand.proofs.Fronts.{body, operand_some, operand_end, no_chain, low_ends}
+use Rattle.operand.proofs.Fronts.{body, operand_some, operand_end}
 use Rattle.operand.proofs.FlatTrees.{flat_tree, flat_short, flat_read}
 use Rattle.operand.proofs.Indices.{makes_index}
 use Rattle.operand_write.specs.Writes.{Front}
@@ -45,11 +44,10 @@ module _ (left : ℕ) (ds : List ℕ) (at : ℕ) {t : Tree} {r : List ℕ} (e : 
     begun : operand left (drop at ds) ≡ then (chain m (drop (at + 1) ds)) (λ y. body left x y)
     begun = operand_some left ds at (λ z. omega (arith, deep)) inside ∙ rw (← ex, ← em)
 
-    pub not_off : Off ≡ ends (at + 1) (chain m (drop (at + 1) ds)) → ⊥
-    not_off z = let q : operand left (drop at ds) ≡ malformed = begun ∙ rw (ran_off (at + 1) (chain m (drop (at + 1) ds)) z) in never (sym q ∙ e)
-
-    pub to : (b : ℕ) → To b ≡ ends (at + 1) (chain m (drop (at + 1) ds)) → Passed m ds (at + 1) b
-    to b z = passed m ds (at + 1) b (omega (arith, inside)) z
+    -- the place behind its extensions is known
+    pub chained : (o : Option ℕ) → o ≡ ends (at + 1) (chain m (drop (at + 1) ds)) → IsSome o
+    chained None z = let q : operand left (drop at ds) ≡ malformed = begun ∙ rw (ran_off (at + 1) (chain m (drop (at + 1) ds)) z) in never (sym q ∙ e)
+    chained (Some b) z = refl
 
 -- the front of an operand that was read: its dword t and, behind the modifiers x, its body at b
 pub record Entered (left : ℕ) (ds : List ℕ) (at t b x : ℕ) : Type 0 where
@@ -58,18 +56,17 @@ pub record Entered (left : ℕ) (ds : List ℕ) (at t b x : ℕ) : Type 0 where
   pub is : operand left (drop at ds) ≡ body left t (slice (at + 1) b ds) (drop b ds)
 
 module _ (left : ℕ) (ds : List ℕ) (at : ℕ) {tree : Tree} {r : List ℕ} (e : operand left (drop at ds) ≡ got tree r) (t : ℕ) (et : t ≡ get_or ds at 0) where
-  pub entered : (m : Bool) → m ≡ follows t → (b : ℕ) → Passed m ds (at + 1) b → (x : ℕ) → x ≡ modifiers (slice (at + 1) b ds) → Entered left ds at t b x
-  entered m em b w x ex =
-      record {
-        deep = deep left ds at e;
-        front = record { from = omega (arith, w.from); within = w.within; modified = ex };
-        is = begun left ds at e t et m em ∙ rw w.is;
-      }
+  module _ (m : Bool) (em : m ≡ follows t) (b : ℕ) (z : Some b ≡ ends (at + 1) (chain m (drop (at + 1) ds))) where
+    pub to : Passed m ds (at + 1) b
+    to = passed m ds (at + 1) b (omega (arith, inside left ds at e)) z
 
-  -- one with a low dword has no extensions
-  pub low_entered : t < 2 ^ 22 → Entered left ds at t (at + 1) 0
-  unfolding modifiers
-  low_entered l = entered false (sym (low_ends t l)) (at + 1) (no_chain ds (at + 1) (omega (arith, inside left ds at e))) 0 (sym (ap modifiers (slice_empty (at + 1) ds)))
+    pub entered : (x : ℕ) → x ≡ modifiers (slice (at + 1) b ds) → Entered left ds at t b x
+    entered x ex =
+        record {
+          deep = deep left ds at e;
+          front = record { from = omega (arith, to.from); within = to.within; modified = ex };
+          is = begun left ds at e t et m em ∙ rw to.is;
+        }
 
 -- an operand of immediates
 pub record Leaf (ds : List ℕ) (t : ℕ) (e : List ℕ) (b : ℕ) (tree : Tree) : Type 0 where
@@ -183,36 +180,3 @@ node_of k ds t e b tree r h q = first (read_index (operand k) (repr 0 t) (drop b
     first : (g : Got Tree) → read_index (operand k) (repr 0 t) (drop b ds) ≡ g → Node k ds t e b tree
     first malformed q₀ = never (rw q₀ at q)
     first (got x u) q₀ = second x u q₀ (read_index (operand k) (repr 1 t) u) refl
-
--- with an index, an operand that was read has no immediates
-pub not_immediate : {left : ℕ} {ds : List ℕ} {at t b x : ℕ} → Entered left ds at t b x → {tree : Tree} {r : List ℕ} → operand left (drop at ds) ≡ got tree r → dimension t ≡ 1 → immediate t ≡ false
-unfolding read_immediates
-not_immediate {left} {ds} {at} {t} {b} o e d = go (immediate t) refl
-  where
-    go : (m : Bool) → immediate t ≡ m → m ≡ false
-    go false q = refl
-    go true q = let z : operand left (drop at ds) ≡ malformed = o.is ∙ rw (q, d) in never (sym z ∙ e)
-
--- a dword with bit 31, and one index in its bits 20 to 30
-pub top_follows : (t : ℕ) → t / 0x100000 ≡ 0x801 → follows t ≡ true
-unfolding follows
-top_follows t h = eq-eqb (t / 2 ^ 31 % 2) 1 (omega arith)
-
--- an operand whose dword t has a follower that is the last: its one extension
-module _ (left : ℕ) (ds : List ℕ) (at : ℕ) {tree : Tree} {r : List ℕ} (e : operand left (drop at ds) ≡ got tree r) (t : ℕ) (et : t ≡ get_or ds at 0) (f : follows t ≡ true) where
-  going : Going ds (at + 1) (length ds) (at + 1) true true
-  going = record { count = refl; same = refl }
-
-  pub more_there : at + 1 < length ds
-  more_there = go (ltb (at + 1) (length ds)) refl
-    where
-      go : (b : Bool) → ltb (at + 1) (length ds) ≡ b → at + 1 < length ds
-      go true q = ltb-true (at + 1) (length ds) q
-      go false q = absurd (not_off left ds at e t et true (sym f) (off going refl (ltb-false (at + 1) (length ds) q)))
-
-  pub once_entered : (x : ℕ) → x ≡ get_or ds (at + 1) 0 → follows x ≡ false → (m : ℕ) → m ≡ modifiers (x ∷ []) → Entered left ds at t (at + 2) m
-  once_entered x ex n m em =
-      let two : at + 1 + 1 ≡ at + 2 = omega arith in
-      let g : To (at + 2) ≡ ends (at + 1) (chain true (drop (at + 1) ds)) = rw two at (ended (goes_on going refl more_there x ex false (sym n)) refl) in
-      let w = passed true ds (at + 1) (at + 2) (omega (arith, more_there)) g in
-      entered left ds at e t et true (sym f) (at + 2) w m (some_modifiers ds (at + 1) (at + 2) (omega arith) w.within (λ z. omega arith) x m ex em)

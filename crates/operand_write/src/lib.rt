@@ -1,17 +1,16 @@
 // Writes an operand that was measured: its rows and its words.
 #![tactic(auto)]
 
-ghost use Rattle.std.specs.Prelude.{◌≡◌, ◌+◌, ◌-◌, ◌<◌, length, get_or, drop};
+ghost use Rattle.std.specs.Prelude.{◌≡◌, ◌+◌, ◌-◌, ◌<◌, length, drop};
 ghost use Rattle.std.proofs.Math.Seq.{slice};
 ghost use Rattle.format.specs.Dwords.{dwords_of};
 ghost use Rattle.format.specs.Operands as op;
 ghost use Rattle.operand_write.specs.Writes as w;
 
-use operand_rows::{Sums, flat, leaf, make_row, modified, own_words, put_row, single};
-use tokens::Skip;
+use operand_rows::{Front, Sums, make_row, own_words, put_row};
 
 // Writes an index of a representation behind what is counted.
-#[cycle(deep_index_tree)]
+#[cycle(index_tree_write)]
 fn index(
     part: &[u8],
     at: usize,
@@ -30,41 +29,41 @@ fn index(
     if !tokens::nests(r) {
         return next;
     }
-    let first = next.rows * 16;
-    let start = next.words;
-    let x = deep(
+    let x = write(
         part,
         at + next.dwords,
         left - 1,
-        &mut ops[first..],
-        &mut words[start..],
+        &mut ops[next.rows * 16..],
+        &mut words[next.words..],
         row + next.rows,
-        word + start,
+        word + next.words,
     );
     Sums {
         rows: next.rows + x.rows,
-        words: start + x.words,
+        words: next.words + x.words,
         dwords: next.dwords + x.dwords,
     }
 }
 
 // Writes an operand by its indices, one after the other; its front is read.
-#[cycle(deep_index_tree)]
+#[cycle(index_tree_write)]
 fn tree(
-    part: &[u8],
-    at: usize,
-    token: u32,
-    body: usize,
-    modifiers: u32,
+    front: &Front,
     left: usize,
     ops: &mut [u32],
     words: &mut [u32],
     row: usize,
     word: usize,
 ) -> Sums
-    requires { (0 < left) × w.Front (dwords_of part.now) at body modifiers × w.Room (op.read_indices (op.operand (left - 1)) token (slice (at + 1) body (dwords_of part.now)) (drop body (dwords_of part.now))) (length ops.old) (length words.old) row word }
-    ensures { w.Wrote (op.read_indices (op.operand (left - 1)) token (slice (at + 1) body (dwords_of part.now)) (drop body (dwords_of part.now))) row word ops.old words.old result ops.new words.new }
+    requires { (0 < left) × w.Front (dwords_of front.now.part.now) front.now.at front.now.body front.now.modifiers × w.Room (op.read_indices (op.operand (left - 1)) front.now.token (slice (front.now.at + 1) front.now.body (dwords_of front.now.part.now)) (drop front.now.body (dwords_of front.now.part.now))) (length ops.old) (length words.old) row word }
+    ensures { w.Wrote (op.read_indices (op.operand (left - 1)) front.now.token (slice (front.now.at + 1) front.now.body (dwords_of front.now.part.now)) (drop front.now.body (dwords_of front.now.part.now))) row word ops.old words.old result ops.new words.new }
 {
+    let Front {
+        part,
+        token,
+        body,
+        ..
+    } = *front;
     let none = Sums {
         rows: 1,
         words: 0,
@@ -77,71 +76,16 @@ fn tree(
     let b = index(part, body, r1, left, ops, words, row, word, a);
     let c = index(part, body, r2, left, ops, words, row, word, b);
     let sums = Sums {
-        rows: c.rows,
-        words: c.words,
-        dwords: body - at + c.dwords,
+        dwords: body - front.at + c.dwords,
+        ..c
     };
-    put_row(ops, make_row(token, modifiers, row, word, a, b, sums));
+    let made = make_row(token, front.modifiers, row, word, a, b, sums);
+    put_row(ops, made.words());
     sums
 }
 
-// Writes any operand that was measured.
-#[cycle(deep_index_tree)]
-pub fn deep(
-    part: &[u8],
-    at: usize,
-    left: usize,
-    ops: &mut [u32],
-    words: &mut [u32],
-    row: usize,
-    word: usize,
-) -> Sums
-    requires { w.Room (op.operand left (drop at (dwords_of part.now))) (length ops.old) (length words.old) row word }
-    ensures { w.Wrote (op.operand left (drop at (dwords_of part.now))) row word ops.old words.old result ops.new words.new }
-{
-    let token = tokens::dword(part, at);
-    let Skip::To(body) = tokens::chain(part, at + 1, tokens::follows(token)) else {
-        return Sums {
-            rows: 0,
-            words: 0,
-            dwords: 0,
-        };
-    };
-    let x = tokens::modifiers_of(part, at + 1, body);
-    if tokens::immediate(token) {
-        return leaf(part, at, token, body, x, ops, words, word);
-    }
-    if token / 0x40_0000 % 512 == 0 {
-        return flat(part, at, token, body, x, ops, words, word);
-    }
-    tree(part, at, token, body, x, left, ops, words, row, word)
-}
-
-// Writes an operand with extensions or representations, whose dword is read. Most have one extension and one index.
-fn extended(
-    part: &[u8],
-    at: usize,
-    token: u32,
-    left: usize,
-    ops: &mut [u32],
-    words: &mut [u32],
-    row: usize,
-    word: usize,
-) -> Sums
-    requires { (token ≡ get_or (dwords_of part.now) at 0) × w.Room (op.operand left (drop at (dwords_of part.now))) (length ops.old) (length words.old) row word }
-    ensures { w.Wrote (op.operand left (drop at (dwords_of part.now))) row word ops.old words.old result ops.new words.new }
-{
-    if token / 0x10_0000 == 0x801 {
-        let x = tokens::dword(part, at + 1);
-        if !tokens::follows(x) {
-            return modified(part, at, token, ops, words, word);
-        }
-    }
-    deep(part, at, left, ops, words, row, word)
-}
-
-// Writes an operand that was measured, at a place, with so many depths left. Most are exact, have neither extensions nor
-// representations, and one index: they go a short way.
+// Writes an operand that was measured, at a place, with so many depths left.
+#[cycle(index_tree_write)]
 pub fn write(
     part: &[u8],
     at: usize,
@@ -155,34 +99,19 @@ pub fn write(
     ensures { w.Wrote (op.operand left (drop at (dwords_of part.now))) row word ops.old words.old result ops.new words.new }
 {
     let token = tokens::dword(part, at);
-    if tokens::short(token) {
-        return single(part, at, token, ops, words, word);
-    }
-    if token >= 0x40_0000 {
-        return extended(part, at, token, left, ops, words, row, word);
-    }
+    let body = tokens::chain(part, at + 1, tokens::follows(token)).unwrap();
+    let front = Front {
+        part,
+        at,
+        token,
+        body,
+        modifiers: tokens::modifiers_of(part, at + 1, body),
+    };
     if tokens::immediate(token) {
-        return leaf(part, at, token, at + 1, 0, ops, words, word);
+        return front.leaf(ops, words, word);
     }
-    flat(part, at, token, at + 1, 0, ops, words, word)
-}
-
-// Writes an operand that was measured, for code that writes few: most of them are short, and the others need no way of their own.
-pub fn write_one(
-    part: &[u8],
-    at: usize,
-    left: usize,
-    ops: &mut [u32],
-    words: &mut [u32],
-    row: usize,
-    word: usize,
-) -> Sums
-    requires { w.Room (op.operand left (drop at (dwords_of part.now))) (length ops.old) (length words.old) row word }
-    ensures { w.Wrote (op.operand left (drop at (dwords_of part.now))) row word ops.old words.old result ops.new words.new }
-{
-    let token = tokens::dword(part, at);
-    if tokens::short(token) {
-        return single(part, at, token, ops, words, word);
+    if token / 0x40_0000 % 512 == 0 {
+        return front.flat(ops, words, word);
     }
-    deep(part, at, left, ops, words, row, word)
+    tree(&front, left, ops, words, row, word)
 }

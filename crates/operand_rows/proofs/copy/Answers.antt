@@ -1,33 +1,15 @@
-use Rattle.format.proofs.Dwords.{length_dwords}
-use mathlib.Core.Path.{◌≡◌}
-use mathlib.Core.Path.{refl}
+use Rattle.std.proofs.Common.{take}
 use native.Mathlib.Omega.{arith}
-use Rattle.operand_rows.proofs.Copies.{copies}
+use lib.Seq.{length-take-le}
+use Rattle.format.specs.Dwords.{dwords_of}
+use Rattle.format.proofs.Dwords.{length_dwords}
+use Rattle.operand_rows.proofs.Copies.{copied_more}
 use Rattle.operand_rows.proofs.copy.Goals as goal
 
-pub loop-i-init : goal.loop-i-init
-loop-i-init c = record { is = refl; within = omega arith; long = refl }
-
 pub overflow_add-at : goal.overflow_add-at
-overflow_add-at c = omega (arith, length_dwords c.args.part.now)
-
-pub dword-requires : goal.dword-requires
-dword-requires c = omega (arith, c.requires)
-
-pub offset_bounds-words-i : goal.offset_bounds-words-i
-offset_bounds-words-i c = omega arith
-
-pub bounds-words-i : goal.bounds-words-i
-bounds-words-i c = omega (arith, c.loop-i.invariant, c.requires)
-
-pub loop-i-smaller : goal.loop-i-smaller
-loop-i-smaller c = omega arith
+overflow_add-at c = let a = c.args in omega (arith, length_dwords a.part.now, length-take-le a.n a.words.now (omega (arith, c.requires)))
 
 pub loop-i-preserved : goal.loop-i-preserved
-loop-i-preserved c = copies c.loop-i.invariant c.requires.0 c.requires.1 c.loop-i-test.true _ c.dword.ensures
-
-pub shape_of-words : goal.shape_of-words
-shape_of-words c = c.loop-i.invariant.long
-
-pub returns : goal.returns
-returns c = let e : c.loop-i.i ≡ c.args.n = omega (arith, c.loop-i.invariant) in rw e at c.loop-i.invariant.is
+loop-i-preserved c = let a = c.args in
+    let few = length-take-le a.n a.words.now (omega (arith, c.requires)) in
+    rw (c.dword.ensures, c.loop-i.invariant) (copied_more (dwords_of a.part.now) (take a.n a.words.now) a.at c.loop-i.i (omega (arith, c.requires, few)) (omega (arith, few)))

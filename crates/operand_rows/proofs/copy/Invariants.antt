@@ -1,10 +1,6 @@
-use Prim.Native.Nat.{◌-◌}
+use Rattle.std.proofs.Common.{◌≡◌, ◌++◌, take, drop}
 use Rattle.format.specs.Dwords.{dwords_of}
-use Rattle.operand_rows.proofs.Copies.{Copying}
 use Rattle.operand_rows.proofs.copy.Given as goal
 
 abbrev pub invariant-loop-i : goal.invariant-loop-i
-invariant-loop-i l = Copying (dwords_of l.part) l.initial.words l.at l.n l.i l.words
-
-abbrev pub decreases-loop-i : goal.decreases-loop-i
-decreases-loop-i l = l.n - l.i
+invariant-loop-i l = l.word-items ≡ take l.i (drop l.at (dwords_of l.part)) ++ drop l.i l.initial.word-items

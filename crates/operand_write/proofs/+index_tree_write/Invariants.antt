@@ -1,8 +1,8 @@
 use Prim.Native.Nat.{◌+◌, ◌*◌}
-use Rattle.operand_write.proofs.+deep_index_tree.Given as goal
+use Rattle.operand_write.proofs.+index_tree_write.Given as goal
 
-abbrev pub decreases-deep : goal.decreases-deep
-decreases-deep l = l.left * 3 + 2
+abbrev pub decreases-write : goal.decreases-write
+decreases-write l = l.left * 3 + 2
 
 abbrev pub decreases-index : goal.decreases-index
 decreases-index l = l.left * 3
