@@ -8,6 +8,7 @@ use native.Mathlib.Omega.{arith}
 use lib.ListN.{length}
 use lib.Dec.{eqb, ltb}
 use borrow.Author.Tests.{eqb-true, eq-eqb, ne_eqb, ltb-true}
+use Rattle.std.specs.Prelude.{Option, Some}
 use Rattle.format.specs.Dwords.{bits, follows}
 use Rattle.format.specs.Framing.{code, long, sized}
 use Rattle.format.specs.Counts.{within, numbers, line_of, operand_count, token_with}
@@ -15,7 +16,7 @@ use Rattle.format.specs.Declarations.{Layout, in_table, layout, field_in, in_bou
 use Rattle.format.specs.Instructions.{fields_of}
 use Rattle.format.proofs.Dwords.{both, bits_above}
 use Rattle.format.proofs.Each.{member}
-use Rattle.layouts.specs.Shapes.{meant, field_of}
+use Rattle.layouts.specs.Shapes.{kind_number, meant, field_of}
 use Rattle.layouts.specs.Table.{shape_of, Declares}
 use Rattle.layouts.specs.declared.Shape.{Shape}
 use Rattle.instruction_fields.specs.Fields.{headed, bare_token, Declared}
@@ -27,8 +28,11 @@ and_no true = refl
 and_no false = refl
 
 module _ (t : ℕ) (x : Shape) (l : Declared (code t) x) where
+  is_4 : kind_number x.kind ≡ 4
+  is_4 = ap kind_number l.kind
+
   kind_4 : (layout (code t)).kind ≡ 4
-  kind_4 = ap (λ (y : Layout). y.kind) (sym l.laid.meaning) ∙ l.kind
+  kind_4 = ap (λ (y : Layout). y.kind) (sym l.laid.meaning) ∙ is_4
 
   -- codes of another kind declare nothing
   of_another : (k : ℕ) (cs : List ℕ) → map (λ c. (layout c).kind) cs ≡ map (λ c. k) cs → (k ≡ 4 → ⊥) → within (code t) cs ≡ false
@@ -84,11 +88,11 @@ module _ (t : ℕ) (x : Shape) (l : Declared (code t) x) where
 
     pub all_exact : (e : List ℕ) (n : ℕ) → true ≡ headed (meant x) t e n
     all_exact e n =
-        class_decides (meant x) t e n true exact refl true (unchained_head x.kind e (omega (arith, l.kind))) refl true (sym parts.bounds) refl true (another_kind x.kind t n (λ z. omega (arith, l.kind)))
+        class_decides (meant x) t e n true exact refl true (unchained_head (kind_number x.kind) e (omega (arith, is_4))) refl true (sym parts.bounds) refl true (another_kind (kind_number x.kind) t n (λ z. omega (arith, is_4)))
 
     pub begins : (ds : List ℕ) → 0 < length ds → Headed (meant x) t ds 1
-    begins ds h = headed_at (meant x) t ds h (head_none (meant x) t ds false (sym unsized) refl (omega (arith, l.kind))) refl
+    begins ds h = headed_at (meant x) t ds h (head_none (meant x) t ds false (sym unsized) refl (ap (λ k. ltb k 3) is_4)) refl
 
 -- ---- the shape that a row tells
-pub declared_by : (c d : ℕ) (x : Shape) → Declares c d → (d ≡ 0 → ⊥) → x ≡ shape_of d → Declared c x
-declared_by c d x h n e = rw e (record { laid = h.laid n; kind = refl; operands = omega arith; ends = refl })
+pub declared_by : (c d : ℕ) (x : Shape) {row : Option ℕ} → Declares c row → row ≡ Some d → x ≡ shape_of d → Declared c x
+declared_by c d x h n e = rw e (record { laid = h.laid d n; kind = refl; operands = omega arith; ends = refl })

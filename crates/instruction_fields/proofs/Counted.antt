@@ -17,19 +17,19 @@ use Rattle.format.specs.Declarations.{o, tail, Layout, layout, chained, field_in
 use Rattle.format.specs.Instructions.{read_head, fields_of, extensions}
 use Rattle.format.proofs.Dwords.{impossible, both, bits_above}
 use Rattle.layouts.specs.Shapes.{meant, items_of}
+use Rattle.layouts.specs.declared.Kind.TheVariants.{Counted}
 use Rattle.layouts.specs.Table.{plain_shape, width_of}
 use Rattle.layouts.proofs.Others.{counts}
 use Rattle.layouts.proofs.Fields.{unbounded, value}
 use Rattle.instruction_fields.specs.Fields.{headed, clear_token, plain_token}
 use Rattle.tokens.specs.Chains.{ends}
-use Rattle.tokens.specs.declared.Skip.{Skip}
-use Rattle.tokens.specs.declared.Skip.TheVariants.{To}
+use Rattle.std.specs.Prelude.{Option, Some}
 use Rattle.instruction_fields.proofs.Heads.{Headed, headed_at}
 
 module _ (c n : ℕ) (h : operand_count c ≡ some n) where
   -- its layout
   abbrev pub shape : Layout
-  shape = meant (plain_shape 1 (width_of c) n true)
+  shape = meant (plain_shape Counted (width_of c) n true)
 
   pub laid : layout c ≡ shape
   laid = sym (counts c n h).meaning
@@ -104,7 +104,7 @@ module _ (t n : ℕ) (h : operand_count (code t) ≡ some n) where
 
     -- the field and saturate: bit 13, which is the field's for 190
     field_is : (w : ℕ) → width_of (code t) ≡ w → field_in x.field t ≡ t / 2 ^ 11 % 2 ^ w
-    field_is w e = sym (value (plain_shape 1 (width_of (code t)) n true) t (counts (code t) n h).sound) ∙ mul-one _ ∙ ap (λ (k : ℕ). t / 2 ^ 11 % 2 ^ k) e
+    field_is w e = sym (value (plain_shape Counted (width_of (code t)) n true) t (counts (code t) n h).sound) ∙ mul-one _ ∙ ap (λ (k : ℕ). t / 2 ^ 11 % 2 ^ k) e
 
     pub field_none : eqb (code t) 190 ≡ false → field_in x.field t ≡ 0
     field_none p = go (eqb (code t) 61 || eqb (code t) 111) refl
@@ -154,18 +154,18 @@ module _ (t n : ℕ) (h : operand_count (code t) ≡ some n) where
     unfolding headed extensions rising
     plain_headed ds end k e =
         let z : slice 1 end ds ≡ [] = rw (e unfollowed) (slice_empty 1 ds) in
-        let b : true ≡ in_bounds x.field t = unbounded (plain_shape 1 (width_of (code t)) n true) t (counts (code t) n h).sound refl in
+        let b : true ≡ in_bounds x.field t = unbounded (plain_shape Counted (width_of (code t)) n true) t (counts (code t) n h).sound refl in
         rw (laid (code t) n h, z, plain_sum, ← b)
 
 -- ---- the code's way to the operands
-module _ (ds : List ℕ) (t n : ℕ) (some-there : 0 < length ds) (et : t ≡ get_or ds 0 0) (h : operand_count (code t) ≡ some n) {f : Bool} (ef : f ≡ follows t) {a : Skip} (ea : a ≡ ends 1 (chain f (drop 1 ds))) where
+module _ (ds : List ℕ) (t n : ℕ) (some-there : 0 < length ds) (et : t ≡ get_or ds 0 0) (h : operand_count (code t) ≡ some n) {f : Bool} (ef : f ≡ follows t) {a : Option ℕ} (ea : a ≡ ends 1 (chain f (drop 1 ds))) where
   abbrev y : Layout
   y = layout (code t)
 
   told_head : a ≡ ends 1 (read_head y t (drop 1 ds))
   told_head = ea ∙ ap (λ (g : Bool). ends 1 (chain g (drop 1 ds))) ef ∙ ap (ends 1) (sym (chain_head t n h (drop 1 ds)))
 
-  module _ {b : ℕ} (e : a ≡ To b) where
+  module _ {b : ℕ} (e : a ≡ Some b) where
     pub begins : Headed y t ds b
     begins = headed_at y t ds some-there told_head e
 
@@ -173,6 +173,6 @@ module _ (ds : List ℕ) (t n : ℕ) (some-there : 0 < length ds) (et : t ≡ ge
     unfolding chain
     no_chain z = go (drop 1 ds) (sym e ∙ ea ∙ ap (λ (g : Bool). ends 1 (chain g (drop 1 ds))) (ef ∙ z))
       where
-        go : (l : List ℕ) → To b ≡ ends 1 (chain false l) → b ≡ 1
+        go : (l : List ℕ) → Some b ≡ ends 1 (chain false l) → b ≡ 1
         go [] q = cc
         go (w ∷ l) q = cc

@@ -2,7 +2,8 @@
 use Prim.Native.Nat.{ℕ, suc, ◌+◌, ◌-◌, ◌%◌, ◌≤◌, ◌<◌}
 use mathlib.Core.Path.{◌≡◌, refl, sym, ap, ◌∙◌}
 use mathlib.Core.List.{List, [], ◌∷◌, ◌++◌}
-use mathlib.Core.Bool.{Bool, true, false, cond}
+use mathlib.Core.Bool.{Bool, true, false, cond, not}
+use mir.Val.{bool_byte}
 use lib.ListN.{length, take, drop, length-drop, length-append, length-replicate}
 use lib.Seq.{drop-drop, take_at, drop_at, slice}
 use lib.Dec.{ltb, eqb}
@@ -18,8 +19,7 @@ use Rattle.format.specs.Instructions.{read_head, fields_of, extensions}
 use Rattle.format.proofs.Dwords.{impossible, All, unmet, met}
 use Rattle.format.proofs.Instructions.{makes_head}
 use Rattle.tokens.specs.Chains.{ends}
-use Rattle.tokens.specs.declared.Skip.{Skip}
-use Rattle.tokens.specs.declared.Skip.TheVariants.{To, Off}
+use Rattle.std.specs.Prelude.{Option, Some, None}
 use Rattle.instruction_fields.specs.Fields.{headed, classed}
 
 -- what stands behind a token: the place where it ends says what it is
@@ -38,10 +38,10 @@ pub record Headed (x : Layout) (t : ℕ) (ds : List ℕ) (b : ℕ) : Type 0 wher
   pub within : b ≤ length ds
   pub is : read_head x t (drop 1 ds) ≡ got (slice 1 b ds) (drop b ds)
 
-pub headed_at : (x : Layout) (t : ℕ) (ds : List ℕ) → 0 < length ds → {b : ℕ} {a : Skip} → a ≡ ends 1 (read_head x t (drop 1 ds)) → a ≡ To b → Headed x t ds b
+pub headed_at : (x : Layout) (t : ℕ) (ds : List ℕ) → 0 < length ds → {b : ℕ} {a : Option ℕ} → a ≡ ends 1 (read_head x t (drop 1 ds)) → a ≡ Some b → Headed x t ds b
 headed_at x t ds h {b} ea eb = go (read_head x t (drop 1 ds)) refl (sym eb ∙ ea)
   where
-    go : (g : Got (List ℕ)) → read_head x t (drop 1 ds) ≡ g → To b ≡ ends 1 g → Headed x t ds b
+    go : (g : Got (List ℕ)) → read_head x t (drop 1 ds) ≡ g → Some b ≡ ends 1 g → Headed x t ds b
     go malformed e z = impossible (cc)
     go (got y r) e z =
         let n : b ≡ 1 + length y = cc in
@@ -51,10 +51,10 @@ headed_at x t ds h {b} ea eb = go (read_head x t (drop 1 ds)) refl (sym eb ∙ e
         let w : drop b ds ≡ r = ap (λ (i : ℕ). drop i ds) n ∙ sym (drop-drop (length y) 1 ds) ∙ ap (drop (length y)) (sym p) ∙ drop_at y r (length y) refl in
         record { begun = omega arith; within = omega arith; is = rw (q, w) e }
 
-pub head_off : (x : Layout) (t : ℕ) (ds : List ℕ) {a : Skip} → a ≡ ends 1 (read_head x t (drop 1 ds)) → a ≡ Off → read_head x t (drop 1 ds) ≡ malformed
+pub head_off : (x : Layout) (t : ℕ) (ds : List ℕ) {a : Option ℕ} → a ≡ ends 1 (read_head x t (drop 1 ds)) → a ≡ None → read_head x t (drop 1 ds) ≡ malformed
 head_off x t ds ea eb = go (read_head x t (drop 1 ds)) (sym eb ∙ ea)
   where
-    go : (g : Got (List ℕ)) → Off ≡ ends 1 g → g ≡ malformed
+    go : (g : Got (List ℕ)) → None ≡ ends 1 g → g ≡ malformed
     go malformed z = refl
     go (got y r) z = impossible (cc)
 
@@ -89,11 +89,16 @@ module _ (x : Layout) (t : ℕ) (e : List ℕ) (n : ℕ) (b₁ : Bool) (e₁ : b
       class_decides z b₄ e₄ = rw (← e₁, z₁, ← e₂, z₂, ← e₃, z, ← e₄)
 
 -- ---- the number of items, and what the code has in other words
-pub no_list : (b : ℕ) → b ≡ 0 → 0 ≡ length (listed b)
-no_list b e = rw e
+pub lists : (b : ℕ) → bool_byte (not (eqb b 0)) ≡ length (listed b)
+lists b = go (eqb b 0)
+  where
+    go : (x : Bool) → bool_byte (not x) ≡ length (cond x [] (list b ∷ []))
+    go true = refl
+    go false = refl
 
-pub one_list : (b : ℕ) → (b ≡ 0 → ⊥) → 1 ≡ length (listed b)
-one_list b n = rw (ne_eqb b 0 n)
+pub tails : (b : Bool) → bool_byte b ≡ length (tailed b)
+tails true = refl
+tails false = refl
 
 pub item_sum : (x : Shape) (l t : ℕ) → l ≡ length (listed x.list) → t ≡ length (tailed x.tail) → x.before + x.operands + x.small + x.after + x.extra + l + t ≡ length (items_of x)
 unfolding items_of
@@ -111,14 +116,3 @@ chained_head kind e h z = rw (lt-ltb kind 3 h) z
 pub unchained_head : (kind : ℕ) (e : List ℕ) → 3 ≤ kind → true ≡ rising 0 (cond (ltb kind 3) e [])
 unfolding rising
 unchained_head kind e h = rw (le-ltb kind 3 h)
-
-pub few_lists : (b r : ℕ) → r ≡ length (listed b) → r ≤ 1
-few_lists b r e = go (eqb b 0) e
-  where
-    go : (x : Bool) → r ≡ length (cond x [] (list b ∷ [])) → r ≤ 1
-    go true e = omega arith
-    go false e = omega arith
-
-pub few_tails : (b : Bool) (r : ℕ) → r ≡ length (tailed b) → r ≤ 1
-few_tails true r e = omega arith
-few_tails false r e = omega arith

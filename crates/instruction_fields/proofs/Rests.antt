@@ -15,8 +15,7 @@ use Rattle.format.specs.Dwords.{some}
 use Rattle.format.specs.Instructions.{read_item}
 use Rattle.format.specs.Declarations.{Item, d, small, s, tail}
 use Rattle.format.proofs.Dwords.{impossible}
-use Rattle.instruction_fields.specs.declared.Place.{Place}
-use Rattle.instruction_fields.specs.declared.Place.TheVariants.{At, Off}
+use Rattle.std.specs.Prelude.{Option, Some, None}
 use Rattle.instruction_fields.specs.Fields.{off, sum, add, sum_of, Passes, to, out, Ends, rest}
 use Rattle.instruction_fields.proofs.Items.{item_off, one_dword_lem, extras, all_left, nothing_left, something_left}
 
@@ -34,10 +33,10 @@ pub after_extra : (m : Bool) (a x : ℕ) (l : List Item) (ds : List ℕ) → sum
 after_extra m a x l ds = under m (replicate x s ++ l) (replicate (cond m x 0) d ++ l) (λ ds. extras m l x ds) a ds ∙ ap (λ (k : List Item). sum_of m k ds) (joined a (cond m x 0) l)
 
 module _ (m : Bool) (ds : List ℕ) (at : ℕ) where
-  pub off_first : (items l : List Item) → Passes items ds at Off → Ends m (items ++ l) ds at false
+  pub off_first : (items l : List Item) → Passes items ds at None → Ends m (items ++ l) ds at false
   off_first items l (out f) = f m l
 
-  pub then_ends : (items l : List Item) (k : ℕ) (r : Bool) → Passes items ds at (At k) → Ends m l ds k r → Ends m (items ++ l) ds at r
+  pub then_ends : (items l : List Item) (k : ℕ) (r : Bool) → Passes items ds at (Some k) → Ends m l ds k r → Ends m (items ++ l) ds at r
   then_ends items l k r (to a b f) e = f m l ∙ ap (add 0 (k - at) true) e ∙ go r
     where
       z : k - at + (length ds - k) ≡ length ds - at
@@ -57,38 +56,38 @@ module _ (m : Bool) (ds : List ℕ) (at : ℕ) where
   ends_later h n = rw (drop-cons ds at 0 (omega (arith, n))) (something_left m (get_or ds at 0) (drop (suc at) ds))
 
 -- ---- the code's way through the items behind the operands
-pub at_place : {items : List Item} {ds : List ℕ} {at k : ℕ} {p : Place} → Passes items ds at p → p ≡ At k → Passes items ds at (At k)
+pub at_place : {items : List Item} {ds : List ℕ} {at k : ℕ} {p : Option ℕ} → Passes items ds at p → p ≡ Some k → Passes items ds at (Some k)
 at_place {items} {ds} {at} q e = subst (Passes items ds at) e q
 
-pub off_place : {items : List Item} {ds : List ℕ} {at : ℕ} {p : Place} → Passes items ds at p → p ≡ Off → Passes items ds at Off
+pub off_place : {items : List Item} {ds : List ℕ} {at : ℕ} {p : Option ℕ} → Passes items ds at p → p ≡ None → Passes items ds at None
 off_place {items} {ds} {at} q e = subst (Passes items ds at) e q
 
-pub place_within : {items : List Item} {ds : List ℕ} {at k : ℕ} {p : Place} → Passes items ds at p → p ≡ At k → k ≤ length ds
+pub place_within : {items : List Item} {ds : List ℕ} {at k : ℕ} {p : Option ℕ} → Passes items ds at p → p ≡ Some k → k ≤ length ds
 place_within {ds = ds} {k = k} (to {k = j} a b f) e = let z : j ≡ k = cc in subst (λ (n : ℕ). n ≤ length ds) z b
 place_within (out f) e = impossible (cc)
 
-pub place_above : {items : List Item} {ds : List ℕ} {at k : ℕ} {p : Place} → Passes items ds at p → p ≡ At k → at ≤ k
+pub place_above : {items : List Item} {ds : List ℕ} {at k : ℕ} {p : Option ℕ} → Passes items ds at p → p ≡ Some k → at ≤ k
 place_above {at = at} {k = k} (to {k = j} a b f) e = let z : j ≡ k = cc in subst (λ (n : ℕ). at ≤ n) z a
 place_above (out f) e = impossible (cc)
 
-module _ (m : Bool) (x : Shape) (ds : List ℕ) (at : ℕ) {p : Place} (p₁ : Passes (replicate x.small small) ds at p) where
-  pub no_small_fits : p ≡ Off → Ends m (rest x) ds at false
+module _ (m : Bool) (x : Shape) (ds : List ℕ) (at : ℕ) {p : Option ℕ} (p₁ : Passes (replicate x.small small) ds at p) where
+  pub no_small_fits : p ≡ None → Ends m (rest x) ds at false
   unfolding rest
   no_small_fits e = off_first m ds at _ _ (off_place p₁ e)
 
-  module _ (a : ℕ) (ea : p ≡ At a) (n : ℕ) (en : n ≡ x.after + cond m x.extra 0) {q : Place} (p₂ : Passes (replicate n d) ds a q) where
+  module _ (a : ℕ) (ea : p ≡ Some a) (n : ℕ) (en : n ≡ x.after + cond m x.extra 0) {q : Option ℕ} (p₂ : Passes (replicate n d) ds a q) where
     past : (r : Bool) → Ends m (replicate n d ++ (listed x.list ++ tailed x.tail)) ds a r → Ends m (rest x) ds at r
     unfolding rest
     past r e = then_ends m ds at _ _ a r (at_place p₁ ea) (after_extra m x.after x.extra (listed x.list ++ tailed x.tail) (drop a ds) ∙ (rw en at e))
 
-    pub no_dwords_fit : q ≡ Off → Ends m (rest x) ds at false
+    pub no_dwords_fit : q ≡ None → Ends m (rest x) ds at false
     no_dwords_fit e = past false (off_first m ds a _ _ (off_place p₂ e))
 
-    module _ (b : ℕ) (eb : q ≡ At b) {u : Place} (p₃ : Passes (listed x.list) ds b u) where
-      pub no_list_fits : u ≡ Off → Ends m (rest x) ds at false
+    module _ (b : ℕ) (eb : q ≡ Some b) {u : Option ℕ} (p₃ : Passes (listed x.list) ds b u) where
+      pub no_list_fits : u ≡ None → Ends m (rest x) ds at false
       no_list_fits e = past false (then_ends m ds a _ _ b false (at_place p₂ eb) (off_first m ds b _ _ (off_place p₃ e)))
 
-      module _ (c : ℕ) (ec : u ≡ At c) where
+      module _ (c : ℕ) (ec : u ≡ Some c) where
         last : (r : Bool) → Ends m (tailed x.tail) ds c r → Ends m (rest x) ds at r
         last r e = past r (then_ends m ds a _ _ b r (at_place p₂ eb) (then_ends m ds b _ _ c r (at_place p₃ ec) e))
 

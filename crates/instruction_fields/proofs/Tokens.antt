@@ -14,7 +14,7 @@ use Rattle.format.specs.Declarations.{Layout}
 use Rattle.format.specs.Instructions.{read_head, fields_of}
 use Rattle.format.proofs.Dwords.{impossible}
 use Rattle.tokens.specs.Chains.{ends}
-use Rattle.tokens.specs.declared.Skip.TheVariants.{To, Off}
+use Rattle.std.specs.Prelude.{Some, None}
 
 module _ (x : Layout) (t : ℕ) where
   pub saturates : x.kind < 4 → (code t ≡ 190 → ⊥) → bits 13 13 t ≡ (fields_of x t).saturate
@@ -48,34 +48,34 @@ module _ (x : Layout) (t : ℕ) where
 
   -- the head
   module _ (ds : List ℕ) (n : ℕ) (en : n ≡ length ds) (h : 0 < length ds) where
-    pub head_short : (b : Bool) → b ≡ sized t → b ≡ true → n < 2 → Off ≡ ends 1 (read_head x t (drop 1 ds))
+    pub head_short : (b : Bool) → b ≡ sized t → b ≡ true → n < 2 → None ≡ ends 1 (read_head x t (drop 1 ds))
     unfolding read_head some
     head_short b e z k = rw (← e, z) (go ds (omega arith))
       where
-        go : (ds : List ℕ) → length ds < 2 → Off ≡ ends 1 (some 1 (drop 1 ds))
+        go : (ds : List ℕ) → length ds < 2 → None ≡ ends 1 (some 1 (drop 1 ds))
         go [] k = refl
         go (y ∷ []) k = refl
         go (y ∷ w ∷ l) k = impossible (omega arith)
 
-    pub head_sized : (b : Bool) → b ≡ sized t → b ≡ true → 2 ≤ n → To 2 ≡ ends 1 (read_head x t (drop 1 ds))
+    pub head_sized : (b : Bool) → b ≡ sized t → b ≡ true → 2 ≤ n → Some 2 ≡ ends 1 (read_head x t (drop 1 ds))
     unfolding read_head some
     head_sized b e z k = rw (← e, z) (go ds (omega arith))
       where
-        go : (ds : List ℕ) → 2 ≤ length ds → To 2 ≡ ends 1 (some 1 (drop 1 ds))
+        go : (ds : List ℕ) → 2 ≤ length ds → Some 2 ≡ ends 1 (some 1 (drop 1 ds))
         go [] k = impossible (omega arith)
         go (y ∷ []) k = impossible (omega arith)
         go (y ∷ w ∷ l) k = refl
 
   module _ (ds : List ℕ) (b : Bool) (e : b ≡ sized t) (z : b ≡ false) where
-    pub head_chain : x.kind < 3 → (f : Bool) → f ≡ follows t → ends 1 (chain f (drop 1 ds)) ≡ ends 1 (read_head x t (drop 1 ds))
+    pub head_chain : ltb x.kind 3 ≡ true → (f : Bool) → f ≡ follows t → ends 1 (chain f (drop 1 ds)) ≡ ends 1 (read_head x t (drop 1 ds))
     unfolding read_head
-    head_chain k f y = rw (← e, z, lt-ltb x.kind 3 k, y)
+    head_chain k f y = rw (← e, z, k, y)
 
-    pub head_none : 3 ≤ x.kind → To 1 ≡ ends 1 (read_head x t (drop 1 ds))
+    pub head_none : ltb x.kind 3 ≡ false → Some 1 ≡ ends 1 (read_head x t (drop 1 ds))
     unfolding read_head chain
-    head_none k = rw (← e, z, le-ltb x.kind 3 k) (go (drop 1 ds))
+    head_none k = rw (← e, z, k) (go (drop 1 ds))
       where
-        go : (l : List ℕ) → To 1 ≡ ends 1 (chain false l)
+        go : (l : List ℕ) → Some 1 ≡ ends 1 (chain false l)
         go [] = refl
         go (y ∷ l) = refl
 

@@ -1,5 +1,5 @@
 -- What is told of a token, of its fields and of the items that are dwords as they are.
-use Rattle.std.specs.Prelude.{ℕ, ◌+◌, ◌-◌, ◌≤◌, ◌≡◌, List, [], ◌∷◌, ◌++◌, Bool, true, false, cond, not, ◌&&◌, ◌||◌, length, drop, replicate, eqb, ltb, ◌%◌, ◌^◌}
+use Rattle.std.specs.Prelude.{Option, Some, None, ℕ, ◌+◌, ◌-◌, ◌≤◌, ◌≡◌, List, [], ◌∷◌, ◌++◌, Bool, true, false, cond, not, ◌&&◌, ◌||◌, length, drop, replicate, eqb, ltb, ◌%◌, ◌^◌}
 use Rattle.format.specs.Dwords.{bits, Got, malformed, got, then, none_left}
 use Rattle.format.specs.Counts.{within, Fields, token_with, rising}
 use Rattle.format.specs.Framing.{code}
@@ -8,10 +8,9 @@ use Rattle.format.specs.Operands.{Tree, exact_parts}
 use Rattle.format.specs.Instructions.{read_items, fields_of, extensions}
 use Rattle.format.specs.Rows.{parts_rows, parts_words}
 use Rattle.layouts.specs.Shapes.{listed, tailed, field_of, Laid}
+use Rattle.layouts.specs.declared.Kind.TheVariants.{Declaration}
 use Rattle.layouts.specs.declared.Shape.{Shape}
 use Rattle.instruction_fields.specs.declared.Fields.{Fields as CodeFields}
-use Rattle.instruction_fields.specs.declared.Place.{Place}
-use Rattle.instruction_fields.specs.declared.Place.TheVariants.{At, Off}
 
 -- what the parts of an instruction come to; or they do not end with it
 pub data Sum : Type 0 where
@@ -31,9 +30,9 @@ unfoldable pub sum_of : Bool → List Item → List ℕ → Sum
 sum_of model51 items ds = total (then (read_items model51 items ds) (λ ps. none_left ps))
 
 -- items that are dwords as they are take those from a place on to another, whatever items follow, in either model; or do not fit
-pub data Passes (items : List Item) (ds : List ℕ) (at : ℕ) : Place → Type 0 where
-  to : {k : ℕ} → at ≤ k → k ≤ length ds → ((m : Bool) (l : List Item) → sum_of m (items ++ l) (drop at ds) ≡ add 0 (k - at) true (sum_of m l (drop k ds))) → Passes items ds at (At k)
-  out : ((m : Bool) (l : List Item) → sum_of m (items ++ l) (drop at ds) ≡ off) → Passes items ds at Off
+pub data Passes (items : List Item) (ds : List ℕ) (at : ℕ) : Option ℕ → Type 0 where
+  to : {k : ℕ} → at ≤ k → k ≤ length ds → ((m : Bool) (l : List Item) → sum_of m (items ++ l) (drop at ds) ≡ add 0 (k - at) true (sum_of m l (drop k ds))) → Passes items ds at (Some k)
+  out : ((m : Bool) (l : List Item) → sum_of m (items ++ l) (drop at ds) ≡ off) → Passes items ds at None
 
 -- the bits that count a list
 pub data Bits : ℕ → Type 0 where
@@ -78,11 +77,11 @@ bare_token x t = ltb t (2 ^ 31) && eqb (bits 11 23 t) (field_in (field_of x) t) 
 
 -- whether k small dwords stand at a place, if it is not past the end
 abbrev pub IsSmall : ℕ → List ℕ → ℕ → Bool → Type 0
-IsSmall k ds at r = r ≡ true → at ≤ length ds → Passes (replicate k small) ds at (At (at + k))
+IsSmall k ds at r = r ≡ true → at ≤ length ds → Passes (replicate k small) ds at (Some (at + k))
 
 -- the shape is a declaration's
 pub record Declared (c : ℕ) (x : Shape) : Type 0 where
   pub laid : Laid c x
-  pub kind : x.kind ≡ 4
+  pub kind : x.kind ≡ Declaration
   pub operands : x.operands ≤ 1
   pub ends : x.tail ≡ false

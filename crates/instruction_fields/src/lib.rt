@@ -9,55 +9,42 @@ ghost use Rattle.format.specs.Framing.{code};
 ghost use Rattle.format.specs.Declarations as dc;
 ghost use Rattle.format.specs.Counts as ct;
 ghost use Rattle.format.specs.Instructions as ins;
-ghost use Rattle.layouts.specs.Shapes.{Sound, listed, tailed, meant, items_of};
+ghost use Rattle.layouts.specs.Shapes.{Sound, kind_number, listed, meant, items_of};
 ghost use Rattle.tokens.specs.Chains.{ends as endsOf};
 ghost use Rattle.instruction_fields.specs.Fields.{Passes, Bits, Listed, Ends, rest, fields_in, classed, headed, clear_token, plain_token, bare_token, IsSmall};
 
 use framing::{long, sized};
-use layouts::{Shape, field_of, in_bounds};
-use tokens::{Skip, chain, dword, dwords, follows};
+use layouts::{Kind, Shape, field_of, in_bounds};
+use tokens::{chain, dword, dwords, follows};
 
-// Where the next item stands; or those before it do not fit.
-#[derive(Drop)]
-pub enum Place {
-    At(usize),
-    Off,
-}
-
-pub fn wide(x: u32) -> usize
-    ensures { result ≡ x }
-{
-    x as usize
-}
-
-// Past k dwords.
-pub fn past_dwords(part: &[u8], at: usize, k: u32) -> Place
+// Past k dwords: the place behind them, if there are so many. The same of each function here that passes something.
+pub fn past_dwords(part: &[u8], at: usize, k: u32) -> Option<usize>
     requires { at ≤ length (dwords_of part.now) }
     ensures { Passes (replicate k dc.d) (dwords_of part.now) at result }
 {
     let n = dwords(part);
-    let k = wide(k);
+    let k = k as usize;
     if n - at < k {
-        return Place::Off;
+        return None;
     }
-    Place::At(at + k)
+    Some(at + k)
 }
 
 // Past a dword under 65,536, if there is to be one.
-fn past_small(part: &[u8], at: usize, small: u32) -> Place
+fn past_small(part: &[u8], at: usize, small: u32) -> Option<usize>
     requires { (at ≤ length (dwords_of part.now)) × (small ≤ 1) }
     ensures { Passes (replicate small dc.small) (dwords_of part.now) at result }
 {
     if small == 0 {
-        return Place::At(at);
+        return Some(at);
     }
     if dwords(part) <= at {
-        return Place::Off;
+        return None;
     }
     if 65536 <= dword(part, at) {
-        return Place::Off;
+        return None;
     }
-    Place::At(at + 1)
+    Some(at + 1)
 }
 
 // How many more dwords a list's first dword says, in its low 16 bits or in all.
@@ -72,22 +59,22 @@ pub fn list_length(x: u32, bits: u32) -> u32
 }
 
 // Past a list that is counted by so many bits of its first dword, if there is to be one.
-fn past_list(part: &[u8], at: usize, bits: u32) -> Place
+fn past_list(part: &[u8], at: usize, bits: u32) -> Option<usize>
     requires { (at ≤ length (dwords_of part.now)) × Listed bits }
     ensures { Passes (listed bits) (dwords_of part.now) at result }
 {
     if bits == 0 {
-        return Place::At(at);
+        return Some(at);
     }
     let n = dwords(part);
     if n <= at {
-        return Place::Off;
+        return None;
     }
-    let k = wide(list_length(dword(part, at), bits));
+    let k = list_length(dword(part, at), bits) as usize;
     if n - at - 1 < k {
-        return Place::Off;
+        return None;
     }
-    Place::At(at + 1 + k)
+    Some(at + 1 + k)
 }
 
 // The dwords that follow in model 5.1 alone.
@@ -102,13 +89,13 @@ pub fn ends(part: &[u8], at: usize, s: Shape, model51: bool) -> bool
     requires { (at ≤ length (dwords_of part.now)) × Sound s }
     ensures { Ends model51 (rest s) (dwords_of part.now) at result }
 {
-    let Place::At(a) = past_small(part, at, s.small) else {
+    let Some(a) = past_small(part, at, s.small) else {
         return false;
     };
-    let Place::At(b) = past_dwords(part, a, s.after + extra(s, model51)) else {
+    let Some(b) = past_dwords(part, a, s.after + extra(s, model51)) else {
         return false;
     };
-    let Place::At(c) = past_list(part, b, s.list) else {
+    let Some(c) = past_list(part, b, s.list) else {
         return false;
     };
     if s.tail {
@@ -118,20 +105,20 @@ pub fn ends(part: &[u8], at: usize, s: Shape, model51: bool) -> bool
 }
 
 // The place behind a token's length dword or extension chain.
-pub fn head(part: &[u8], s: Shape, t: u32) -> Skip
+pub fn head(part: &[u8], s: Shape, t: u32) -> Option<usize>
     requires { 0 < length (dwords_of part.now) }
     ensures { result ≡ endsOf 1 (ins.read_head (meant s) t (drop 1 (dwords_of part.now))) }
 {
     if sized(t) {
         if dwords(part) < 2 {
-            return Skip::Off;
+            return None;
         }
-        return Skip::To(2);
+        return Some(2);
     }
-    if s.kind < 3 {
+    if s.kind.has_chain() {
         return chain(part, 1, follows(t));
     }
-    Skip::To(1)
+    Some(1)
 }
 
 // What a token says beside its code.
@@ -149,7 +136,7 @@ pub struct Fields {
 pub fn tests(code: u32) -> bool
     ensures { result ≡ ct.within code (3 ∷ 5 ∷ 8 ∷ 13 ∷ 31 ∷ 63 ∷ []) }
 {
-    (code == 3) | (code == 5) | (code == 8) | (code == 13) | (code == 31) | (code == 63)
+    matches!(code, 3 | 5 | 8 | 13 | 31 | 63)
 }
 
 // Bit 18, for the codes that have it.
@@ -161,9 +148,13 @@ fn test(t: u32) -> u32
 
 // Bits 19 to 22, for kinds 1 to 3.
 fn precise(s: Shape, t: u32) -> u32
-    ensures { result ≡ cond (ltb s.kind 4) (bits 19 22 t) 0 }
+    ensures { result ≡ cond (ltb (kind_number s.kind) 4) (bits 19 22 t) 0 }
 {
-    if s.kind < 4 { t / 0x8_0000 % 16 } else { 0 }
+    if s.kind.has_flags() {
+        t / 0x8_0000 % 16
+    } else {
+        0
+    }
 }
 
 // Bits 24 to 30, where the length is not in the next dword.
@@ -180,23 +171,17 @@ const SYNC: u32 = 190;
 fn saturate(s: Shape, t: u32) -> u32
     ensures { result ≡ (ins.fields_of (meant s) t).saturate }
 {
-    if 4 <= s.kind {
-        return 0;
+    if s.kind.has_flags() && t % 2048 != SYNC {
+        return t / 0x2000 % 2;
     }
-    if t % 2048 == SYNC {
-        return 0;
-    }
-    t / 0x2000 % 2
+    0
 }
 
 // Bit 31, for kinds 1 and 2 and the long form.
 fn extended(s: Shape, t: u32) -> u32
     ensures { result ≡ (ins.fields_of (meant s) t).extended }
 {
-    if s.kind < 3 {
-        return t / 0x8000_0000 % 2;
-    }
-    if long(t) {
+    if s.kind.has_chain() || long(t) {
         return t / 0x8000_0000 % 2;
     }
     0
@@ -221,25 +206,16 @@ pub fn fields_of(s: Shape, t: u32) -> Fields
 pub fn exact_token(t: u32, f: Fields) -> bool
     ensures { result ≡ eqb t (ct.token_with (code t) (fields_in f)) }
 {
-    let low = far(t % 2048) + far(f.field) * 0x800 + far(f.saturate) * 0x2000;
-    let mid = low + far(f.test) * 0x4_0000 + far(f.precise) * 0x8_0000;
-    far(t) == mid + far(f.length) * 0x100_0000 + far(f.extended) * 0x8000_0000
-}
-
-fn far(x: u32) -> u64
-    ensures { result ≡ x }
-{
-    x as u64
+    let low = u64::from(t % 2048) + u64::from(f.field) * 0x800 + u64::from(f.saturate) * 0x2000;
+    let mid = low + u64::from(f.test) * 0x4_0000 + u64::from(f.precise) * 0x8_0000;
+    u64::from(t) == mid + u64::from(f.length) * 0x100_0000 + u64::from(f.extended) * 0x8000_0000
 }
 
 // An extension of an instruction has the bits that its type allows.
 fn exact_extension(e: u32) -> bool
     ensures { result ≡ eqb e (ct.lower_bits e + bits 31 31 e * 2 ^ 31) }
 {
-    if e % 64 != 1 {
-        return true;
-    }
-    e == 1 + e / 0x200 % 0x1000 * 0x200 + e / 0x8000_0000 % 2 * 0x8000_0000
+    e % 64 != 1 || e == 1 + e / 0x200 % 0x1000 * 0x200 + e / 0x8000_0000 % 2 * 0x8000_0000
 }
 
 // Whether the extensions between two places are of types 1, 2, 3, rising, and exact.
@@ -248,49 +224,22 @@ pub fn rising(part: &[u8], from: usize, to: usize) -> bool
     ensures { result ≡ ct.rising 0 (slice from to (dwords_of part.now)) }
 {
     let mut last = 0;
-    let mut at = from;
-    while at < to {
+    for at in from..to {
         let e = dword(part, at);
         let k = e % 64;
-        if k <= last {
-            return false;
-        }
-        if 4 <= k {
-            return false;
-        }
-        if !exact_extension(e) {
+        if k <= last || 4 <= k || !exact_extension(e) {
             return false;
         }
         last = k;
-        at += 1;
     }
     true
 }
 
 // Custom data of class 3 has a multiple of 4 dwords after its two.
-pub fn exact_class(kind: u32, t: u32, n: usize) -> bool
-    ensures { result ≡ classed kind t n }
+pub fn exact_class(kind: Kind, t: u32, n: usize) -> bool
+    ensures { result ≡ classed (kind_number kind) t n }
 {
-    if kind != 5 {
-        return true;
-    }
-    if t / 0x800 % 32 != 3 {
-        return true;
-    }
-    n % 4 == 0
-}
-
-// One list, if its length has bits.
-fn lists(bits: u32) -> u32
-    ensures { result ≡ length (listed bits) }
-{
-    if bits == 0 { 0 } else { 1 }
-}
-
-fn tails(tail: bool) -> u32
-    ensures { result ≡ length (tailed tail) }
-{
-    if tail { 1 } else { 0 }
+    kind != Kind::CustomData || t / 0x800 % 32 != 3 || n % 4 == 0
 }
 
 // How many items a shape has, those of model 5.1 among them.
@@ -298,20 +247,17 @@ pub fn item_count(s: Shape) -> u32
     requires { Sound s }
     ensures { result ≡ length (items_of s) }
 {
-    let list = lists(s.list);
-    let tail = tails(s.tail);
+    let list = u32::from(s.list != 0);
+    let tail = u32::from(s.tail);
     s.before + s.operands + s.small + s.after + s.extra + list + tail
 }
 
 // Whether the extensions of kinds 1 and 2, which stand before a place, are what they should be.
-fn risen(part: &[u8], kind: u32, end: usize) -> bool
+fn risen(part: &[u8], kind: Kind, end: usize) -> bool
     requires { (1 ≤ end) × (end ≤ length (dwords_of part.now)) }
-    ensures { result ≡ ct.rising 0 (cond (ltb kind 3) (slice 1 end (dwords_of part.now)) []) }
+    ensures { result ≡ ct.rising 0 (cond (ltb (kind_number kind) 3) (slice 1 end (dwords_of part.now)) []) }
 {
-    if kind < 3 {
-        return rising(part, 1, end);
-    }
-    true
+    !kind.has_chain() || rising(part, 1, end)
 }
 
 // Whether the dwords of an instruction are exactly those of its layout, apart from its parts.
@@ -319,36 +265,24 @@ pub fn exact_head(part: &[u8], s: Shape, t: u32, end: usize) -> bool
     requires { (Sound s) × (1 ≤ end) × (end ≤ length (dwords_of part.now)) }
     ensures { result ≡ headed (meant s) t (slice 1 end (dwords_of part.now)) (length (dwords_of part.now) - end) }
 {
-    if !exact_token(t, fields_of(s, t)) {
-        return false;
-    }
-    if !risen(part, s.kind, end) {
-        return false;
-    }
-    if !in_bounds(s, t) {
-        return false;
-    }
-    exact_class(s.kind, t, dwords(part) - end)
+    exact_token(t, fields_of(s, t))
+        && risen(part, s.kind, end)
+        && in_bounds(s, t)
+        && exact_class(s.kind, t, dwords(part) - end)
 }
 
 // Whether a token has only its code, its length, saturate, test and precise, and no extension.
 fn clear(t: u32) -> bool
     ensures { result ≡ clear_token t }
 {
-    (t / 0x800 % 4 == 0)
-        & (t / 0x4000 % 16 == 0)
-        & (t / 0x80_0000 % 2 == 0)
-        & (t / 0x8000_0000 % 2 == 0)
+    t / 0x800 % 4 == 0 && t / 0x4000 % 16 == 0 && t / 0x80_0000 % 2 == 0 && t / 0x8000_0000 % 2 == 0
 }
 
 // The same, and a test only where the code has one. Most have none, which one comparison tells.
 pub fn plain(t: u32) -> bool
     ensures { result ≡ plain_token t }
 {
-    if clear(t) & (t / 0x4_0000 % 2 == 0) {
-        return true;
-    }
-    clear(t) & tests(t % 2048)
+    clear(t) && (t / 0x4_0000 % 2 == 0 || tests(t % 2048))
 }
 
 // Whether a declaration's token has only its code, its length and a field within its bounds.
@@ -356,7 +290,7 @@ pub fn bare(s: Shape, t: u32) -> bool
     requires { Sound s }
     ensures { result ≡ bare_token s t }
 {
-    (t < 0x8000_0000) & (t / 0x800 % 0x2000 == field_of(s, t)) & in_bounds(s, t)
+    t < 0x8000_0000 && t / 0x800 % 0x2000 == field_of(s, t) && in_bounds(s, t)
 }
 
 // Whether a dword is under 65,536, if there is to be one.
@@ -364,12 +298,5 @@ pub fn small_at(part: &[u8], at: usize, small: u32) -> bool
     requires { small ≤ 1 }
     ensures { IsSmall small (dwords_of part.now) at result }
 {
-    if small == 0 {
-        return true;
-    }
-    let n = dwords(part);
-    if n <= at {
-        return false;
-    }
-    dword(part, at) < 65536
+    small == 0 || at < dwords(part) && dword(part, at) < 65536
 }

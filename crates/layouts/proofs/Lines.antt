@@ -134,7 +134,7 @@ or_later k (j ∷ ks) c (inr r) = rw (or_later j ks c r) (or_true (eqb c k))
     or_true true = refl
     or_true false = refl
 
-a_key : (ks : List ℕ) (c : ℕ) → OneOf ks c → within c ks ≡ true
+pub a_key : (ks : List ℕ) (c : ℕ) → OneOf ks c → within c ks ≡ true
 a_key [] c h = absurd h
 a_key (k ∷ ks) c h = or_later k ks c h
 

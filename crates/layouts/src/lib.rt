@@ -1,7 +1,7 @@
 // The layout of every code: operand counts, the table of declarations, field bits.
 #![tactic(auto)]
 
-ghost use Rattle.std.specs.Prelude.{◌≡◌, ◌<◌, ◌≤◌};
+ghost use Rattle.std.specs.Prelude.{◌≡◌, ◌<◌, ◌≤◌, ltb};
 ghost use Rattle.std.proofs.Math.Option.{none, some};
 ghost use Rattle.format.specs.Counts.{operand_count};
 ghost use Rattle.format.specs.Declarations.{field_in, in_bounds};
@@ -23,6 +23,20 @@ impl Kind {
         ensures { result ≡ kind_number self }
     {
         self as u32
+    }
+
+    // Whether extensions may follow the token: kinds 1 and 2.
+    pub fn has_chain(self) -> bool
+        ensures { result ≡ ltb (kind_number self) 3 }
+    {
+        matches!(self, Kind::Counted | Kind::Opaque)
+    }
+
+    // Whether the token may have saturate and precise bits: kinds 1 to 3.
+    pub fn has_flags(self) -> bool
+        ensures { result ≡ ltb (kind_number self) 4 }
+    {
+        matches!(self, Kind::Counted | Kind::Opaque | Kind::Phase)
     }
 }
 
