@@ -1,5 +1,3 @@
 pub mod Parts
 pub mod Nans
-pub mod Showing
-pub mod Nibbles
 pub mod Unique

@@ -1,74 +1,37 @@
--- Laws of a row's words: each way through the code gives what the definitions say.
-use Prim.Native.Nat.{ℕ, ◌+◌, ◌*◌, ◌/◌, ◌<◌, ◌≤◌}
-use mathlib.Core.Path.{◌≡◌, refl, sym, ap, ◌∙◌}
-use mathlib.Core.Bool.{Bool, true, false, cond, ◌&&◌}
-use mathlib.Core.List.{List, []}
-use lib.ListN.{length, get_or}
-use lib.Dec.{ltb, leb}
-use borrow.Author.Tests.{leb-true, ltb-true, ltb-false, lt-ltb, le-ltb, le-leb, lt-leb}
-use native.Mathlib.Omega.{arith}
-use Rattle.format.specs.Calls.{reached, spanned, part_of, part_start}
-use Rattle.rows.specs.Span.{span, span_start}
+-- A row's words 0 to 15, and the part that its words 14 and 15 say.
+use Rattle.std.proofs.Common.{ℕ, ◌+◌, ◌*◌, ◌-◌, ◌<◌, ◌≤◌, ◌≡◌, refl, Bool, true, false, cond, List, [], length, get_or, take, drop, arith, length-drop, ◌&&◌}
+use Rattle.std.proofs.lemmas.List.{get_or-take, get_or-drop}
+use Rattle.std.proofs.lemmas.Int.{to_z-of_z}
+use borrow.Author.Tests.{leb-true}
+use lib.Seq.{length-take-le}
+use Rattle.format.specs.Calls.{cell, reached, spanned, part_of, part_start}
 
-both : (a b : Bool) → a && b ≡ true → b ≡ true
-both true b h = h
-both false b h = cc
+-- word k of a row
+pub cell_of : (row k : ℕ) (pool r : List ℕ) → r ≡ take 16 (drop (16 * row) pool) → k < 16 → get_or r k 0 ≡ cell row k pool
+cell_of row k pool r e h = rw e (rw (get_or-take 16 (drop (16 * row) pool) k 0 h, get_or-drop (16 * row) pool k 0) refl)
 
-same_test : (a b : Bool) → (a ≡ true → b ≡ true) → (a ≡ false → b ≡ false) → a ≡ b
-same_test true b f g = sym (f refl)
-same_test false b f g = sym (g refl)
+-- a number comes back out of the i8 that it is stored in
+pub ruleset stored = (to_z-of_z)
 
--- a row is inside its pool if it is one of the pool's whole rows
-whole : (row n : ℕ) → ltb row (n / 16) ≡ leb (16 * row + 16) n
-whole row n =
-    same_test (ltb row (n / 16)) (leb (16 * row + 16) n) (λ h. le-leb (16 * row + 16) n (omega (arith, ltb-true row (n / 16) h)))
-    (λ h. lt-leb (16 * row + 16) n (omega (arith, ltb-false row (n / 16) h)))
+-- a part lies in the word pool, and is cut out of it by its start and its length
+inside : (b : Bool) (a n : ℕ) (words : List ℕ) → (b ≡ true → a + n ≤ length words) → cond b a 0 + length (cond b (take n (drop a words)) []) ≤ length words
+inside true a n words h = omega (arith, h refl, length-drop a words, length-take-le n (drop a words) (omega (arith, h refl, length-drop a words)))
+inside false a n words h = omega arith
 
-pub under : (row count : ℕ) (pool : List ℕ) → row < count → ltb row (length pool / 16) ≡ reached row count pool
-unfolding reached
-under row count pool h = simp (lt-ltb row count h) (whole row (length pool))
+cut : (b : Bool) (a n : ℕ) (words : List ℕ) → (b ≡ true → a + n ≤ length words) → take (length (cond b (take n (drop a words)) [])) (drop (cond b a 0) words) ≡ cond b (take n (drop a words)) []
+cut true a n words h = rw (length-take-le n (drop a words) (omega (arith, h refl, length-drop a words))) refl
+cut false a n words h = refl
 
-pub past : (row count : ℕ) (pool : List ℕ) → count ≤ row → false ≡ reached row count pool
-unfolding reached
-past row count pool h = simp (le-ltb row count h)
+second : (a b : Bool) → a && b ≡ true → b ≡ true
+second true b h = h
+second false b h = cc
 
--- a row that is reached has its sixteen words
-pub room : (row count : ℕ) (pool : List ℕ) → reached row count pool ≡ true → 16 * row + 16 ≤ length pool
-unfolding reached
-room row count pool h = leb-true _ _ (both (ltb row count) _ h)
+pub part_inside : (row count : ℕ) (pool words : List ℕ) → part_start row count pool words + length (part_of row count pool words) ≤ length words
+unfolding part_of part_start spanned
+part_inside row count pool words = inside _ (cell row 14 pool) (cell row 15 pool) words (λ h. leb-true _ _ (second (reached row count pool) _ h))
 
--- its part is the span that its words 14 and 15 say
-span_in : (row count : ℕ) (pool words : List ℕ) {k a n : ℕ} → k ≡ row → a ≡ get_or pool (16 * k + 14) 0 → n ≡ get_or pool (16 * k + 15) 0 → reached row count pool ≡ true → span a n words ≡ part_of row count pool words
-unfolding part_of spanned span
-span_in row count pool words e x y h = simp (x, y, e, h)
-
-start_in : (row count : ℕ) (pool words : List ℕ) {k a n : ℕ} → k ≡ row → a ≡ get_or pool (16 * k + 14) 0 → n ≡ get_or pool (16 * k + 15) 0 → reached row count pool ≡ true → span_start a n words ≡ part_start row count pool words
-unfolding part_start spanned span_start
-start_in row count pool words e x y h = simp (x, y, e, h)
-
--- where a part that starts at word n lies, in a word pool that lies at p
-abbrev place : ℕ × ℕ → ℕ → ℕ × ℕ
-place p n = (p.0, n * 4 + p.1)
-
-pub part_in : (row count : ℕ) (pool words : List ℕ) (p : ℕ × ℕ) {k a n : ℕ} {l : List ℕ} {q : ℕ × ℕ} → k ≡ row → a ≡ get_or pool (16 * k + 14) 0 → n ≡ get_or pool (16 * k + 15) 0 → reached row count pool ≡ true →
-    (l ≡ span a n words) × (q ≡ place p (span_start a n words)) → (l ≡ part_of row count pool words) × (q ≡ place p (part_start row count pool words))
-part_in row count pool words p e x y h m =
-    (m.0 ∙ span_in row count pool words e x y h, m.1 ∙ ap (λ (j : ℕ). place p j) (start_in row count pool words e x y h))
-
--- the part of no row is empty, at 0
-either : {A : Type 0} (b : Bool) (x : A) → cond b x x ≡ x
-either true x = refl
-either false x = refl
-
-span_out : (row count : ℕ) (pool words : List ℕ) → reached row count pool ≡ false → span 0 0 words ≡ part_of row count pool words
-unfolding part_of spanned span
-span_out row count pool words h = simp h (either (leb 0 (length words)) [])
-
-start_out : (row count : ℕ) (pool words : List ℕ) → reached row count pool ≡ false → span_start 0 0 words ≡ part_start row count pool words
-unfolding part_start spanned span_start
-start_out row count pool words h = simp h (either (leb 0 (length words)) 0)
-
-pub part_out : (row count : ℕ) (pool words : List ℕ) (p : ℕ × ℕ) {l : List ℕ} {q : ℕ × ℕ} → reached row count pool ≡ false →
-    (l ≡ span 0 0 words) × (q ≡ place p (span_start 0 0 words)) → (l ≡ part_of row count pool words) × (q ≡ place p (part_start row count pool words))
-part_out row count pool words p h m =
-    (m.0 ∙ span_out row count pool words h, m.1 ∙ ap (λ (j : ℕ). place p j) (start_out row count pool words h))
+pub part_cut : (row count : ℕ) (pool words : List ℕ) {start end : ℕ} → start ≡ part_start row count pool words → end ≡ part_start row count pool words + length (part_of row count pool words) → take (end - start) (drop start words) ≡ part_of row count pool words
+unfolding part_of part_start spanned
+part_cut row count pool words {start} {end} p q =
+    let n : end - start ≡ length (part_of row count pool words) = omega arith in
+    rw (n, p) (cut _ (cell row 14 pool) (cell row 15 pool) words (λ h. leb-true _ _ (second (reached row count pool) _ h)))
