@@ -4,140 +4,332 @@
 use format::{Offsets, Shown};
 use std::io;
 
-// row number and count; words 2, 3, 8, 9, 14 and 15 of row 1: code, kind, extension bits, nibbles, where its words start, how many
+// What row 1 holds, of the words that the calls read; its others are 0.
 #[derive(Clone, Copy, Drop)]
-struct Asked(u32, u32, u32, u32, u32, u32, u32, u32);
+struct Row {
+    code: u32,
+    kind: u32,
+    extensions: u32,
+    nibbles: u32,
+    start: u32,
+    length: u32,
+}
 
-// how many words, the first; what is shown: 0 nothing, 1 a count, 2 a factor, 3 a factor that is a NaN; u, v and w
+// What should be shown: a float stands beside those that are no number, since those are equal to nothing.
 #[derive(Clone, Copy, Drop)]
-struct Wanted(usize, u32, u8, u32, f32, i8, i8, i8);
+enum Wanted {
+    Nothing,
+    Count(u32),
+    Factor(f32),
+    NoNumber,
+}
 
-// a row that is asked for, and what is wanted
+use Wanted::{Count, Factor, NoNumber, Nothing};
+
+// A row number and a count that are asked for, and what is wanted: how many words, the first of them, what is shown, and u, v and w.
 #[derive(Clone, Copy, Drop)]
-struct Case(Asked, Wanted);
+struct Case {
+    row: u32,
+    count: u32,
+    holds: Row,
+    words: usize,
+    first: Option<u32>,
+    shown: Wanted,
+    offsets: (i8, i8, i8),
+}
 
 const CASES: [Case; 16] = [
-    Case(
-        Asked(1, 2, 152, 4, 0, 0xF87, 1, 1),
-        Wanted(1, 0x3FC0_0000, 2, 0, 1.5, 0, 0, 0),
-    ),
-    Case(
-        Asked(1, 2, 152, 4, 0, 0, 2, 1),
-        Wanted(1, 0x7FC0_0000, 3, 0, 0.0, 0, 0, 0),
-    ),
-    Case(
-        Asked(1, 2, 144, 4, 1, 0xF87, 0, 1),
-        Wanted(1, 7, 1, 7, 0.0, 7, -8, -1),
-    ),
-    Case(
-        Asked(1, 2, 206, 4, 7, 0x0F8, 3, 1),
-        Wanted(1, 5, 1, 5, 0.0, -8, -1, 0),
-    ),
-    Case(
-        Asked(1, 2, 152, 1, 3, 0x1000, 1, 1),
-        Wanted(1, 0x3FC0_0000, 0, 0, 0.0, 0, 0, 0),
-    ),
-    Case(
-        Asked(1, 2, 95, 4, 2, 0xF87, 1, 1),
-        Wanted(1, 0x3FC0_0000, 0, 0, 0.0, 0, 0, 0),
-    ),
-    Case(
-        Asked(1, 2, 152, 4, 0, 0, 1, 2),
-        Wanted(2, 0x3FC0_0000, 0, 0, 0.0, 0, 0, 0),
-    ),
-    Case(
-        Asked(1, 2, 152, 4, 0, 0, 1, 0),
-        Wanted(0, 0, 0, 0, 0.0, 0, 0, 0),
-    ),
-    Case(
-        Asked(1, 2, 152, 4, 0, 0, 4, 0),
-        Wanted(0, 0, 0, 0, 0.0, 0, 0, 0),
-    ),
-    Case(
-        Asked(1, 2, 152, 4, 0, 0, 0, 4),
-        Wanted(4, 7, 0, 0, 0.0, 0, 0, 0),
-    ),
-    Case(
-        Asked(1, 2, 144, 4, 1, 0x111, 4, 1),
-        Wanted(0, 0, 0, 0, 0.0, 1, 1, 1),
-    ),
-    Case(
-        Asked(1, 2, 144, 4, 1, 0x111, 0xFFFF_FFFF, 2),
-        Wanted(0, 0, 0, 0, 0.0, 1, 1, 1),
-    ),
-    Case(
-        Asked(1, 1, 144, 4, 1, 0x111, 0, 1),
-        Wanted(0, 0, 0, 0, 0.0, 0, 0, 0),
-    ),
-    Case(
-        Asked(2, 3, 144, 4, 1, 0x111, 0, 1),
-        Wanted(0, 0, 0, 0, 0.0, 0, 0, 0),
-    ),
-    Case(
-        Asked(0x1000_0001, 0xFFFF_FFFF, 144, 4, 1, 0x111, 0, 1),
-        Wanted(0, 0, 0, 0, 0.0, 0, 0, 0),
-    ),
-    Case(
-        Asked(0, 1, 144, 4, 1, 0x111, 0, 1),
-        Wanted(0, 0, 0, 0, 0.0, 0, 0, 0),
-    ),
+    Case {
+        row: 1,
+        count: 2,
+        holds: Row {
+            code: 152,
+            kind: 4,
+            extensions: 0,
+            nibbles: 0xF87,
+            start: 1,
+            length: 1,
+        },
+        words: 1,
+        first: Some(0x3FC0_0000),
+        shown: Factor(1.5),
+        offsets: (0, 0, 0),
+    },
+    Case {
+        row: 1,
+        count: 2,
+        holds: Row {
+            code: 152,
+            kind: 4,
+            extensions: 0,
+            nibbles: 0,
+            start: 2,
+            length: 1,
+        },
+        words: 1,
+        first: Some(0x7FC0_0000),
+        shown: NoNumber,
+        offsets: (0, 0, 0),
+    },
+    Case {
+        row: 1,
+        count: 2,
+        holds: Row {
+            code: 144,
+            kind: 4,
+            extensions: 1,
+            nibbles: 0xF87,
+            start: 0,
+            length: 1,
+        },
+        words: 1,
+        first: Some(7),
+        shown: Count(7),
+        offsets: (7, -8, -1),
+    },
+    Case {
+        row: 1,
+        count: 2,
+        holds: Row {
+            code: 206,
+            kind: 4,
+            extensions: 7,
+            nibbles: 0x0F8,
+            start: 3,
+            length: 1,
+        },
+        words: 1,
+        first: Some(5),
+        shown: Count(5),
+        offsets: (-8, -1, 0),
+    },
+    Case {
+        row: 1,
+        count: 2,
+        holds: Row {
+            code: 152,
+            kind: 1,
+            extensions: 3,
+            nibbles: 0x1000,
+            start: 1,
+            length: 1,
+        },
+        words: 1,
+        first: Some(0x3FC0_0000),
+        shown: Nothing,
+        offsets: (0, 0, 0),
+    },
+    Case {
+        row: 1,
+        count: 2,
+        holds: Row {
+            code: 95,
+            kind: 4,
+            extensions: 2,
+            nibbles: 0xF87,
+            start: 1,
+            length: 1,
+        },
+        words: 1,
+        first: Some(0x3FC0_0000),
+        shown: Nothing,
+        offsets: (0, 0, 0),
+    },
+    Case {
+        row: 1,
+        count: 2,
+        holds: Row {
+            code: 152,
+            kind: 4,
+            extensions: 0,
+            nibbles: 0,
+            start: 1,
+            length: 2,
+        },
+        words: 2,
+        first: Some(0x3FC0_0000),
+        shown: Nothing,
+        offsets: (0, 0, 0),
+    },
+    Case {
+        row: 1,
+        count: 2,
+        holds: Row {
+            code: 152,
+            kind: 4,
+            extensions: 0,
+            nibbles: 0,
+            start: 1,
+            length: 0,
+        },
+        words: 0,
+        first: None,
+        shown: Nothing,
+        offsets: (0, 0, 0),
+    },
+    Case {
+        row: 1,
+        count: 2,
+        holds: Row {
+            code: 152,
+            kind: 4,
+            extensions: 0,
+            nibbles: 0,
+            start: 4,
+            length: 0,
+        },
+        words: 0,
+        first: None,
+        shown: Nothing,
+        offsets: (0, 0, 0),
+    },
+    Case {
+        row: 1,
+        count: 2,
+        holds: Row {
+            code: 152,
+            kind: 4,
+            extensions: 0,
+            nibbles: 0,
+            start: 0,
+            length: 4,
+        },
+        words: 4,
+        first: Some(7),
+        shown: Nothing,
+        offsets: (0, 0, 0),
+    },
+    Case {
+        row: 1,
+        count: 2,
+        holds: Row {
+            code: 144,
+            kind: 4,
+            extensions: 1,
+            nibbles: 0x111,
+            start: 4,
+            length: 1,
+        },
+        words: 0,
+        first: None,
+        shown: Nothing,
+        offsets: (1, 1, 1),
+    },
+    Case {
+        row: 1,
+        count: 2,
+        holds: Row {
+            code: 144,
+            kind: 4,
+            extensions: 1,
+            nibbles: 0x111,
+            start: 0xFFFF_FFFF,
+            length: 2,
+        },
+        words: 0,
+        first: None,
+        shown: Nothing,
+        offsets: (1, 1, 1),
+    },
+    Case {
+        row: 1,
+        count: 1,
+        holds: Row {
+            code: 144,
+            kind: 4,
+            extensions: 1,
+            nibbles: 0x111,
+            start: 0,
+            length: 1,
+        },
+        words: 0,
+        first: None,
+        shown: Nothing,
+        offsets: (0, 0, 0),
+    },
+    Case {
+        row: 2,
+        count: 3,
+        holds: Row {
+            code: 144,
+            kind: 4,
+            extensions: 1,
+            nibbles: 0x111,
+            start: 0,
+            length: 1,
+        },
+        words: 0,
+        first: None,
+        shown: Nothing,
+        offsets: (0, 0, 0),
+    },
+    Case {
+        row: 0x1000_0001,
+        count: 0xFFFF_FFFF,
+        holds: Row {
+            code: 144,
+            kind: 4,
+            extensions: 1,
+            nibbles: 0x111,
+            start: 0,
+            length: 1,
+        },
+        words: 0,
+        first: None,
+        shown: Nothing,
+        offsets: (0, 0, 0),
+    },
+    Case {
+        row: 0,
+        count: 1,
+        holds: Row {
+            code: 144,
+            kind: 4,
+            extensions: 1,
+            nibbles: 0x111,
+            start: 0,
+            length: 1,
+        },
+        words: 0,
+        first: None,
+        shown: Nothing,
+        offsets: (0, 0, 0),
+    },
 ];
 
-// Whether a part has n words, x first.
-fn same_words(part: &[u32], n: usize, x: u32) -> bool {
-    if part.len() != n {
-        return false;
-    }
-    if 0 < part.len() {
-        return part[0] == x;
-    }
-    true
-}
-
 // Whether what is shown is what was wanted.
-fn same_shown(s: Shown, w: Wanted) -> bool {
-    match s {
-        Shown::Nothing => w.2 == 0,
-        Shown::Count(n) => w.2 == 1 && n == w.3,
-        Shown::Factor(f) => (w.2 == 2 && f == w.4) || (w.2 == 3 && f != f),
+fn same_shown(shown: Shown, wanted: Wanted) -> bool {
+    match (shown, wanted) {
+        (Shown::Nothing, Nothing) => true,
+        (Shown::Count(n), Count(m)) => n == m,
+        (Shown::Factor(f), Factor(g)) => f == g,
+        (Shown::Factor(f), NoNumber) => f.is_nan(),
+        _ => false,
     }
 }
 
-// Whether u, v and w are those wanted.
-fn same_offsets(o: Offsets, w: Wanted) -> bool {
-    o.u == w.5 && o.v == w.6 && o.w == w.7
-}
-
-// Whether a case's three answers are those wanted. Row 0 is all zero, and the word pool has four words.
-fn right(a: Asked, w: Wanted) -> bool {
+// Whether the three answers are those wanted. Row 0 is all zero, and the word pool has four words.
+fn right(case: &Case) -> bool {
     let mut pool = [0u32; 32];
-    pool[18] = a.2;
-    pool[19] = a.3;
-    pool[24] = a.4;
-    pool[25] = a.5;
-    pool[30] = a.6;
-    pool[31] = a.7;
+    let holds = case.holds;
+    pool[18] = holds.code;
+    pool[19] = holds.kind;
+    pool[24] = holds.extensions;
+    pool[25] = holds.nibbles;
+    pool[30] = holds.start;
+    pool[31] = holds.length;
     let words: [u32; 4] = [7, 0x3FC0_0000, 0x7FC0_0000, 5];
-    let parts = same_words(rows::words_of(&pool, &words, a.0, a.1), w.0, w.1);
-    let shown = same_shown(rows::shows(&pool, &words, a.0, a.1), w);
-    let offsets = same_offsets(rows::offsets(&pool, a.0, a.1), w);
-    parts && shown && offsets
-}
-
-// How many cases are right.
-fn count_right() -> u64 {
-    let mut n: u64 = 0;
-    for i in 0..16 {
-        let c = CASES[i];
-        if right(c.0, c.1) {
-            n = std::num::wrapping_add_u64(n, 1);
-        }
-    }
-    n
+    let part = rows::words_of(&pool, &words, case.row, case.count);
+    let shown = rows::shows(&pool, &words, case.row, case.count);
+    let (u, v, w) = case.offsets;
+    part.len() == case.words
+        && part.first().copied() == case.first
+        && same_shown(shown, case.shown)
+        && rows::offsets(&pool, case.row, case.count) == Offsets { u, v, w }
 }
 
 // Prints how many cases are right, and how many wrong.
 fn main(rt: HostRuntime) -> io::Result<()> {
-    let n = count_right();
-    println!(rt; "{n} right, {} wrong", std::num::wrapping_sub_u64(16, n))
+    let right = CASES.iter().filter(|case| right(case)).count();
+    println!(rt; "{right} right, {} wrong", CASES.len() - right)
 }
