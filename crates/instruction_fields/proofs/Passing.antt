@@ -2,18 +2,18 @@
 use Prim.Native.Nat.{ℕ, suc, ◌+◌, ◌-◌, ◌%◌, ◌^◌, ◌≤◌, ◌<◌}
 use mathlib.Core.Path.{◌≡◌, refl, sym, ap, ◌∙◌, subst}
 use mathlib.Core.List.{List, [], ◌∷◌}
-use mathlib.Core.Bool.{true, false}
+use mathlib.Core.Bool.{Bool, true, false, cond, ◌&&◌}
 use lib.ListN.{length, get_or, drop, replicate, length-drop, drop_of_length-le}
 use lib.Seq.{drop-cons, drop-drop}
 use mathlib.Core.Logic.{◌⊎◌, inl, inr}
 use native.Mathlib.Omega.{arith}
-use lib.Dec.{ltb}
-use borrow.Author.Tests.{ne_eqb, ltb-true}
+use lib.Dec.{eqb, leb, ltb}
+use borrow.Author.Tests.{eqb-true, eqb-false, leb-true, leb-false, ltb-true, ltb-false}
 use Rattle.format.specs.Declarations.{Item, d, small, list}
-use Rattle.format.proofs.Dwords.{impossible}
 use Rattle.layouts.specs.Shapes.{listed}
 use Rattle.std.specs.Prelude.{Some, None}
-use Rattle.instruction_fields.specs.Fields.{add, sum_of, Passes, to, out, Bits, low, all, Listed, unlisted, counted, IsSmall}
+use Rattle.instruction_fields.specs.Places.{dwords_on, small_on, list_on}
+use Rattle.instruction_fields.specs.Fields.{add, sum_of, Passes, to, out, low, all, Listed, unlisted, counted, IsSmall}
 use Rattle.instruction_fields.proofs.Items.{add-zero, dwords_whole, dwords_short, small_whole, small_large, small_none, list_whole, list_short, list_none}
 
 module _ (ds : List ℕ) (at : ℕ) (h : at ≤ length ds) where
@@ -74,59 +74,39 @@ module _ (ds : List ℕ) (at : ℕ) (h : at ≤ length ds) where
     pub list_end : length ds ≤ at → Passes items ds at None
     list_end k = out (λ m l. rw (at_end k) (list_none m l b))
 
--- the code's tests
-module _ (ds : List ℕ) (at : ℕ) (h : at ≤ length ds) (n : ℕ) (e : n ≡ length ds) where
-  pub dwords_off : (k k' : ℕ) → k' ≡ k → n - at < k' → Passes (replicate k d) ds at None
-  dwords_off k k' f g = passes_off ds at h k (omega arith)
+-- where they end
+module _ (ds : List ℕ) (at : ℕ) (h : at ≤ length ds) where
+  pub dwords_pass : (k : ℕ) → Passes (replicate k d) ds at (dwords_on (length ds) at k)
+  dwords_pass k = go (leb k (length ds - at)) refl
+    where
+      go : (b : Bool) → leb k (length ds - at) ≡ b → Passes (replicate k d) ds at (cond b (Some (at + k)) None)
+      go true e = passes_dwords ds at h k (leb-true k (length ds - at) e)
+      go false e = passes_off ds at h k (leb-false k (length ds - at) e)
 
-  pub dwords_to : (k k' : ℕ) → k' ≡ k → k' ≤ n - at → Passes (replicate k d) ds at (Some (at + k'))
-  dwords_to k k' f g = rw f (passes_dwords ds at h k (omega arith))
+  one_small : (k : ℕ) → k ≤ 1 → eqb k 0 ≡ false → k ≡ 1
+  one_small k l e = let n = eqb-false k 0 e in omega arith
 
-  one_small : (k : ℕ) → k ≤ 1 → (k ≡ 0 → ⊥) → k ≡ 1
-  one_small k a b = omega arith
+  pub small_passes : (k : ℕ) → k ≤ 1 → Passes (replicate k small) ds at (small_on k ds at)
+  small_passes k l = go (eqb k 0) refl (ltb at (length ds)) refl (ltb (get_or ds at 0) 65_536) refl
+    where
+      go : (a : Bool) → eqb k 0 ≡ a → (b : Bool) → ltb at (length ds) ≡ b → (c : Bool) → ltb (get_or ds at 0) 65_536 ≡ c → Passes (replicate k small) ds at (cond a (Some at) (cond (b && c) (Some (at + 1)) None))
+      go true ea b eb c ec = rw (eqb-true k 0 ea) (stays ds at h)
+      go false ea false eb c ec = rw (one_small k l ea) (small_end ds at h (ltb-false at (length ds) eb))
+      go false ea true eb true ec = rw (one_small k l ea) (passes_small ds at h (ltb-true at (length ds) eb) (ltb-true (get_or ds at 0) 65_536 ec))
+      go false ea true eb false ec = rw (one_small k l ea) (small_off ds at h (ltb-true at (length ds) eb) (ltb-false (get_or ds at 0) 65_536 ec))
 
-  module _ (k : ℕ) (a : k ≤ 1) (b : k ≡ 0 → ⊥) where
-    pub past_end_small : n ≤ at → Passes (replicate k small) ds at None
-    past_end_small g = rw (one_small k a b) (small_end ds at h (omega arith))
+  pub list_passes : (b : ℕ) → Passes (listed b) ds at (list_on b ds at)
+  list_passes b = go (eqb b 0) (ltb at (length ds)) refl (leb (get_or ds at 0 % 2 ^ b) (length ds - (at + 1))) refl
+    where
+      go : (z : Bool) (y : Bool) → ltb at (length ds) ≡ y → (x : Bool) → leb (get_or ds at 0 % 2 ^ b) (length ds - (at + 1)) ≡ x
+          → Passes (cond z [] (list b ∷ [])) ds at (cond z (Some at) (cond y (cond x (Some (at + 1 + get_or ds at 0 % 2 ^ b)) None) None))
+      go true y ey x ex = stays ds at h
+      go false false ey x ex = list_end ds at h b (ltb-false at (length ds) ey)
+      go false true ey true ex = let k = leb-true (get_or ds at 0 % 2 ^ b) (length ds - (at + 1)) ex in passes_list ds at h b (ltb-true at (length ds) ey) (omega arith)
+      go false true ey false ex = let k = leb-false (get_or ds at 0 % 2 ^ b) (length ds - (at + 1)) ex in list_off ds at h b (ltb-true at (length ds) ey) (omega arith)
 
-    pub too_large : (x : ℕ) → at < n → x ≡ get_or ds at 0 → 65_536 ≤ x → Passes (replicate k small) ds at None
-    too_large x g f y = rw (one_small k a b) (small_off ds at h (omega arith) (omega arith))
-
-    pub small_to : (x : ℕ) → at < n → x ≡ get_or ds at 0 → x < 65_536 → Passes (replicate k small) ds at (Some (at + 1))
-    small_to x g f y = rw (one_small k a b) (passes_small ds at h (omega arith) (omega arith))
-
-  pub no_small : (k : ℕ) → k ≡ 0 → Passes (replicate k small) ds at (Some at)
-  no_small k z = rw z (stays ds at h)
-
-  pub no_list : (k : ℕ) → k ≡ 0 → Passes (listed k) ds at (Some at)
-  no_list k z = rw z (stays ds at h)
-
-  listed_one : (b : ℕ) → (b ≡ 0 → ⊥) → listed b ≡ list b ∷ []
-  listed_one b z = rw (ne_eqb b 0 z)
-
-  module _ (b : ℕ) (z : b ≡ 0 → ⊥) where
-    pub past_end_list : n ≤ at → Passes (listed b) ds at None
-    past_end_list g = rw (listed_one b z) (list_end ds at h b (omega arith))
-
-    pub list_long : (x y k : ℕ) → at < n → x ≡ get_or ds at 0 → y ≡ x % 2 ^ b → k ≡ y → n - at - 1 < k → Passes (listed b) ds at None
-    list_long x y k g f q r t = rw (listed_one b z) (list_off ds at h b (omega arith) (let w : k ≡ get_or ds at 0 % 2 ^ b = r ∙ q ∙ ap (λ (v : ℕ). v % 2 ^ b) f in omega arith))
-
-    pub list_to : (x y k : ℕ) → at < n → x ≡ get_or ds at 0 → y ≡ x % 2 ^ b → k ≡ y → k ≤ n - at - 1 → Passes (listed b) ds at (Some (at + 1 + k))
-    list_to x y k g f q r t =
-        let w : k ≡ get_or ds at 0 % 2 ^ b = r ∙ q ∙ ap (λ (v : ℕ). v % 2 ^ b) f in
-        rw (listed_one b z, w) (passes_list ds at h b (omega arith) (omega arith))
-
--- the low 16 bits, or all
-pub low_bits : (b x : ℕ) → b ≡ 16 → x % 65536 ≡ x % 2 ^ b
-low_bits b x e = rw e
-
-pub all_bits : {b : ℕ} (x : ℕ) → Bits b → (b ≡ 16 → ⊥) → x < 2 ^ 32 → x ≡ x % 2 ^ b
-all_bits x low n h = absurd (n refl)
-all_bits x all n h = omega arith
-
-pub bits_of : {b : ℕ} → Listed b → (b ≡ 0 → ⊥) → Bits b
-bits_of unlisted n = absurd (n refl)
-bits_of (counted c) n = c
+  pub no_list : (n : ℕ) → n ≡ length ds → (k : ℕ) → k ≡ 0 → Passes (listed k) ds at (Some at)
+  no_list n e k z = rw z (stays ds at h)
 
 pub listed_of : {b : ℕ} → (b ≡ 0) ⊎ ((b ≡ 16) ⊎ (b ≡ 32)) → Listed b
 listed_of (inl e) = subst Listed (sym e) unlisted
@@ -136,10 +116,7 @@ listed_of (inr (inr e)) = subst Listed (sym e) (counted all)
 -- ---- a small dword that there may be
 module _ (k : ℕ) (ds : List ℕ) (at : ℕ) where
   pub no_small_there : k ≡ 0 → IsSmall k ds at true
-  no_small_there z _ h = let a : at + k ≡ at = omega arith in rw a (no_small ds at h (length ds) refl k z)
-
-  pub not_small : IsSmall k ds at false
-  not_small e h = impossible (cc)
+  no_small_there z _ h = let a : at + k ≡ at = omega arith in rw (a, z) (stays ds at h)
 
   pub small_told : k ≤ 1 → (k ≡ 0 → ⊥) → at < length ds → (v : ℕ) → v ≡ get_or ds at 0 → IsSmall k ds at (ltb v 65536)
-  small_told a b l v ev e h = let z : at + k ≡ at + 1 = omega (arith, b) in rw z (small_to ds at h (length ds) refl k a b v l ev (ltb-true v 65536 e))
+  small_told a b l v ev e h = let z : k ≡ 1 = omega arith in rw z (passes_small ds at h l (let y = ltb-true v 65536 e in omega arith))

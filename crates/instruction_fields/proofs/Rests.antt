@@ -16,6 +16,10 @@ use Rattle.format.specs.Instructions.{read_item}
 use Rattle.format.specs.Declarations.{Item, d, small, s, tail}
 use Rattle.format.proofs.Dwords.{impossible}
 use Rattle.std.specs.Prelude.{Option, Some, None}
+use Rattle.std.specs.Option.{option_eq}
+use Rattle.layouts.specs.Shapes.{Sound}
+use Rattle.instruction_fields.specs.Places.{◌>>=◌, dwords_on, small_on, list_on, tail_on, rest_on}
+use Rattle.instruction_fields.proofs.Passing.{dwords_pass, small_passes, list_passes}
 use Rattle.instruction_fields.specs.Fields.{off, sum, add, sum_of, Passes, to, out, Ends, rest}
 use Rattle.instruction_fields.proofs.Items.{item_off, one_dword_lem, extras, all_left, nothing_left, something_left}
 
@@ -100,3 +104,32 @@ module _ (m : Bool) (x : Shape) (ds : List ℕ) (at : ℕ) {p : Option ℕ} (p�
             go : Dec (c ≡ k) → Ends m [] ds c (eqb c k)
             go (yes y) = rw (eq-eqb c k y) (ends_here m ds c (y ∙ e))
             go (no y) = rw (ne_eqb c k y) (ends_later m ds c (place_within p₃ ec) (λ w. y (w ∙ sym e)))
+
+-- they end where the place behind them is the end
+module _ (m : Bool) (x : Shape) (ds : List ℕ) (at : ℕ) (h : at ≤ length ds) (s : Sound x) where
+  pub rest_ends : Ends m (rest x) ds at (option_eq eqb (rest_on m x ds at) (Some (length ds)))
+  unfolding rest_on
+  rest_ends = first (small_on x.small ds at) (small_passes ds at h x.small s.small)
+    where
+      n : ℕ
+      n = x.after + cond m x.extra 0
+
+      told : Option ℕ → Bool
+      told p = option_eq eqb p (Some (length ds))
+
+      third : {p : Option ℕ} (p₁ : Passes (replicate x.small small) ds at p) (a : ℕ) (ea : p ≡ Some a) {q : Option ℕ} (p₂ : Passes (replicate n d) ds a q) (b : ℕ) (eb : q ≡ Some b) →
+          (u : Option ℕ) → Passes (listed x.list) ds b u → Ends m (rest x) ds at (told (u >>= λ c. Some (tail_on x.tail (length ds) c)))
+      third p₁ a ea p₂ b eb None p₃ = no_list_fits m x ds at p₁ a ea n refl p₂ b eb p₃ refl
+      third p₁ a ea p₂ b eb (Some c) p₃ = go x.tail refl
+        where
+          go : (t : Bool) → x.tail ≡ t → Ends m (rest x) ds at (eqb (cond t (length ds) c) (length ds))
+          go true e = rw (eq-eqb (length ds) (length ds) refl) (keeps_tail m x ds at p₁ a ea n refl p₂ b eb p₃ c refl e)
+          go false e = ends_there m x ds at p₁ a ea n refl p₂ b eb p₃ c refl e (length ds) refl
+
+      second : {p : Option ℕ} (p₁ : Passes (replicate x.small small) ds at p) (a : ℕ) (ea : p ≡ Some a) → (q : Option ℕ) → Passes (replicate n d) ds a q → Ends m (rest x) ds at (told (q >>= λ b. list_on x.list ds b >>= λ c. Some (tail_on x.tail (length ds) c)))
+      second p₁ a ea None p₂ = no_dwords_fit m x ds at p₁ a ea n refl p₂ refl
+      second p₁ a ea (Some b) p₂ = third p₁ a ea p₂ b refl (list_on x.list ds b) (list_passes ds b (place_within p₂ refl) x.list)
+
+      first : (p : Option ℕ) → Passes (replicate x.small small) ds at p → Ends m (rest x) ds at (told (p >>= λ a. dwords_on (length ds) a n >>= λ b. list_on x.list ds b >>= λ c. Some (tail_on x.tail (length ds) c)))
+      first None p₁ = no_small_fits m x ds at p₁ refl
+      first (Some a) p₁ = second p₁ a refl (dwords_on (length ds) a n) (dwords_pass ds a (place_within p₁ refl) n)

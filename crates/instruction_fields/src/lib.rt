@@ -11,44 +11,41 @@ ghost use Rattle.format.specs.Counts as ct;
 ghost use Rattle.format.specs.Instructions as ins;
 ghost use Rattle.layouts.specs.Shapes.{Sound, kind_number, listed, meant, items_of};
 ghost use Rattle.tokens.specs.Chains.{ends as endsOf};
+ghost use Rattle.instruction_fields.specs.Places.{dwords_on, small_on, list_on, rest_on};
 ghost use Rattle.instruction_fields.specs.Fields.{Passes, Bits, Listed, Ends, rest, fields_in, classed, headed, clear_token, plain_token, bare_token, IsSmall};
 
 use framing::{long, sized};
 use layouts::{Kind, Shape, field_of, in_bounds};
-use tokens::{chain, dword, dwords, follows};
+use tokens::{DwordList, chain, dword, dwords, follows};
 
-// Past k dwords: the place behind them, if there are so many. The same of each function here that passes something.
-pub fn past_dwords(part: &[u8], at: usize, k: u32) -> Option<usize>
-    requires { at ≤ length (dwords_of part.now) }
-    ensures { Passes (replicate k dc.d) (dwords_of part.now) at result }
+// Past k dwords: the place behind them, if there are so many.
+pub fn past_dwords<D: DwordList>(part: D, at: usize, k: u32) -> Option<usize>
+    requires { at ≤ length (D.listed part) }
+    ensures place { result ≡ dwords_on (length (D.listed part)) at k }
+    ensures passes { Passes (replicate k dc.d) (D.listed part) at result }
 {
-    let n = dwords(part);
     let k = k as usize;
-    if n - at < k {
+    if part.count() - at < k {
         return None;
     }
     Some(at + k)
 }
 
 // Past a dword under 65,536, if there is to be one.
-fn past_small(part: &[u8], at: usize, small: u32) -> Option<usize>
-    requires { (at ≤ length (dwords_of part.now)) × (small ≤ 1) }
-    ensures { Passes (replicate small dc.small) (dwords_of part.now) at result }
+fn past_small<D: DwordList>(part: D, at: usize, small: u32) -> Option<usize>
+    ensures { result ≡ small_on small (D.listed part) at }
 {
     if small == 0 {
         return Some(at);
     }
-    if dwords(part) <= at {
-        return None;
-    }
-    if 65536 <= dword(part, at) {
+    if part.count() <= at || 65536 <= part.at(at) {
         return None;
     }
     Some(at + 1)
 }
 
 // How many more dwords a list's first dword says, in its low 16 bits or in all.
-pub fn list_length(x: u32, bits: u32) -> u32
+fn list_length(x: u32, bits: u32) -> u32
     requires { Bits bits }
     ensures { result ≡ x % 2 ^ bits }
 {
@@ -59,22 +56,17 @@ pub fn list_length(x: u32, bits: u32) -> u32
 }
 
 // Past a list that is counted by so many bits of its first dword, if there is to be one.
-fn past_list(part: &[u8], at: usize, bits: u32) -> Option<usize>
-    requires { (at ≤ length (dwords_of part.now)) × Listed bits }
-    ensures { Passes (listed bits) (dwords_of part.now) at result }
+fn past_list<D: DwordList>(part: D, at: usize, bits: u32) -> Option<usize>
+    requires { Listed bits }
+    ensures { result ≡ list_on bits (D.listed part) at }
 {
     if bits == 0 {
         return Some(at);
     }
-    let n = dwords(part);
-    if n <= at {
+    if part.count() <= at {
         return None;
     }
-    let k = list_length(dword(part, at), bits) as usize;
-    if n - at - 1 < k {
-        return None;
-    }
-    Some(at + 1 + k)
+    past_dwords(part, at + 1, list_length(part.at(at), bits))
 }
 
 // The dwords that follow in model 5.1 alone.
@@ -84,24 +76,23 @@ pub fn extra(s: Shape, model51: bool) -> u32
     if model51 { s.extra } else { 0 }
 }
 
+// Past the items behind the operands, to the end if there is a tail.
+pub fn past_rest<D: DwordList>(part: D, at: usize, s: Shape, model51: bool) -> Option<usize>
+    requires { (at ≤ length (D.listed part)) × Sound s }
+    ensures { result ≡ rest_on model51 s (D.listed part) at }
+{
+    let a = past_small(part, at, s.small)?;
+    let b = past_dwords(part, a, s.after + extra(s, model51))?;
+    let c = past_list(part, b, s.list)?;
+    Some(if s.tail { part.count() } else { c })
+}
+
 // Whether the items behind the operands, from a place on, end with the part.
 pub fn ends(part: &[u8], at: usize, s: Shape, model51: bool) -> bool
     requires { (at ≤ length (dwords_of part.now)) × Sound s }
     ensures { Ends model51 (rest s) (dwords_of part.now) at result }
 {
-    let Some(a) = past_small(part, at, s.small) else {
-        return false;
-    };
-    let Some(b) = past_dwords(part, a, s.after + extra(s, model51)) else {
-        return false;
-    };
-    let Some(c) = past_list(part, b, s.list) else {
-        return false;
-    };
-    if s.tail {
-        return true;
-    }
-    c == dwords(part)
+    past_rest(part, at, s, model51) == Some(dwords(part))
 }
 
 // The place behind a token's length dword or extension chain.

@@ -1,7 +1,7 @@
 // Dwords out of bytes, the fields of an operand's dword, and chains of extensions.
 #![tactic(auto)]
 
-ghost use Rattle.std.specs.Prelude.{◌≡◌, [], ◌∷◌, ℕ, ◌+◌, ◌*◌, ◌-◌, ◌/◌, ◌^◌, ◌<◌, ◌≤◌, length, get_or, drop, ◌&&◌, eqb, ltb};
+ghost use Rattle.std.specs.Prelude.{◌≡◌, List, [], ◌∷◌, ℕ, ◌+◌, ◌*◌, ◌-◌, ◌/◌, ◌^◌, ◌<◌, ◌≤◌, length, get_or, drop, ◌&&◌, eqb, ltb};
 ghost use Rattle.std.proofs.Math.Seq.{slice};
 ghost use Rattle.format.specs.Dwords as d;
 ghost use Rattle.format.specs.Dwords.{dwords_of};
@@ -24,6 +24,42 @@ pub fn dword(part: &[u8], k: usize) -> u32
 {
     let i = k * 4;
     u32::from_le_bytes([part[i], part[i + 1], part[i + 2], part[i + 3]])
+}
+
+// A run of dwords, which bytes hold or words are.
+pub trait DwordList: Copy {
+    ghost listed: { Self → List ℕ };
+
+    fn count(self) -> usize
+        ensures { result ≡ length (listed self) };
+
+    fn at(self, k: usize) -> u32
+        requires { k < length (listed self) }
+        ensures { result ≡ get_or (listed self) k 0 };
+}
+
+impl DwordList for &[u8] {
+    ghost listed = { λ part. dwords_of part.now };
+
+    fn count(self) -> usize {
+        dwords(self)
+    }
+
+    fn at(self, k: usize) -> u32 {
+        dword(self, k)
+    }
+}
+
+impl DwordList for &[u32] {
+    ghost listed = { λ words. words.now };
+
+    fn count(self) -> usize {
+        self.len()
+    }
+
+    fn at(self, k: usize) -> u32 {
+        self[k]
+    }
 }
 
 // Bit 31: another dword follows.

@@ -1,9 +1,9 @@
-use mathlib.Core.Path.{refl}
-use Rattle.instruction_fields.proofs.Passing.{dwords_off, dwords_to}
+use native.Mathlib.Omega.{arith}
+use Rattle.instruction_fields.proofs.Passing.{passes_off, passes_dwords}
 use Rattle.instruction_fields.proofs.past_dwords.Goals as goal
 
-pub returns-then-n-at : goal.returns-then-n-at
-returns-then-n-at c = dwords_off _ _ c.requires _ c.dwords-n.ensures _ _ refl c.if-n-at.true
+pub returns-then-count-at-clause-passes : goal.returns-then-count-at-clause-passes
+returns-then-count-at-clause-passes g c = passes_off _ _ c.requires _ (omega arith)
 
-pub returns : goal.returns
-returns c = dwords_to _ _ c.requires _ c.dwords-n.ensures _ _ refl c.if-n-at.false
+pub returns-clause-passes : goal.returns-clause-passes
+returns-clause-passes g c = passes_dwords _ _ c.requires _ (omega arith)
