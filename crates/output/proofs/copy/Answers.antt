@@ -1,11 +1,8 @@
-use Rattle.output.proofs.Puts.{copied_none, copied_one, copied_more}
+use Rattle.output.proofs.Puts.{dwords_none, words_more}
 use Rattle.output.proofs.copy.Goals as goal
 
-pub returns-then-n-eq0 : goal.returns-then-n-eq0
-returns-then-n-eq0 c = copied_none c.args.words.now c.args.word c.args.n c.args.at c.args.output.now c.if-n-eq0.true
+pub loop-i-init : goal.loop-i-init
+loop-i-init c = dwords_none c.args.at c.args.output.now
 
-pub returns-then-n-eq1 : goal.returns-then-n-eq1
-returns-then-n-eq1 c = copied_one c.args.words.now c.args.word c.args.n c.args.at c.args.output.now c.requires.0 c.requires.1 c.put_dword.ensures c.if-n-eq1.true
-
-pub returns : goal.returns
-returns c = copied_more c.args.words.now c.args.word c.args.n c.args.at c.args.output.now c.requires.0 c.requires.1 c.put_dword.ensures c.if-n-eq0.false c.if-n-eq1.false c.put_dword-2.ensures c.copy_each.ensures
+pub loop-i-preserved : goal.loop-i-preserved
+loop-i-preserved c = words_more c.args.at c.args.words.now c.args.word c.loop-i.i c.args.n c.args.output.now c.requires.0 c.requires.1 c.loop-i-test.true c.loop-i.invariant c.put_dword.ensures
