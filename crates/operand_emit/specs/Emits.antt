@@ -1,5 +1,5 @@
 -- What is written of an operand whose rows and words were confirmed: the bytes of its dwords.
-use Rattle.std.specs.Prelude.{ℕ, ◌+◌, ◌-◌, ◌*◌, ◌/◌, ◌^◌, ◌<◌, ◌≤◌, ◌≡◌, List, [], ◌∷◌, ◌++◌, length, get_or, take, drop}
+use Rattle.std.specs.Prelude.{ℕ, ◌+◌, ◌*◌, ◌/◌, ◌^◌, ◌<◌, ◌≤◌, ◌≡◌, List, ◌∷◌, length, take, drop}
 use Rattle.std.proofs.Math.Option.{Option, none as nothing, some as just}
 use Rattle.format.specs.Dwords.{bytes_of}
 use Rattle.format.specs.Operands.{Tree, none, dwords}
@@ -7,7 +7,7 @@ use Rattle.format.specs.Rows.{tree_rows, tree_words}
 use Rattle.format.specs.Encoder.{at, extension_of, operand_dword}
 use Rattle.output.specs.Puts.{put}
 use Rattle.operand_deep.specs.Confirm.{Confirmer}
-use Rattle.operand_emit.specs.declared.Ends.{Ends}
+use Rattle.operand_emit.specs.declared.Place.{Place}
 
 -- the row from a place on
 abbrev pub row_from : ℕ → List ℕ → List ℕ
@@ -29,7 +29,7 @@ pub record Ready (o : Option Tree) (place n : ℕ) : Type 0 where
   pub room : 4 * (place + length (dwords tree)) ≤ n
 
 -- its dwords stand there; what is behind it: a place where a row begins, a word, and a dword of the output
-pub record Emitted (o : Option Tree) (first word place : ℕ) (out : List ℕ) (ends : Ends) (out' : List ℕ) : Type 0 where
+pub record Emitted (o : Option Tree) (first word place : ℕ) (out : List ℕ) (ends : Place) (out' : List ℕ) : Type 0 where
   pub output_is : out' ≡ put (4 * place) (bytes_of (dwords (tree_in o))) out
   pub first_is : ends.first ≡ first + 16 * tree_rows (tree_in o)
   pub word_is : ends.word ≡ word + length (tree_words (tree_in o))
@@ -44,40 +44,3 @@ pub record Fits (q : List ℕ) : Type 0 where
   pub form_fits : at 1 q < 5
   pub modifiers_fit : at 3 q < 2 ^ 7
   pub dword_fits : operand_dword q < 2 ^ 32
-
--- as many words as the row's dwords leave behind its head
-abbrev pub words_left : List ℕ → ℕ
-words_left q = at 15 q - length (head_of q)
-
--- a row, words for all of its dwords but the head, and room for them
-pub record Lone (q : List ℕ) (ws word place n : ℕ) : Type 0 where
-  pub fits : Fits q
-  pub head_fits : length (head_of q) ≤ at 15 q
-  pub words_there : words_left q ≤ ws - word
-  pub room : 4 * (place + at 15 q) ≤ n
-
--- the head and those words stand there
-pub record Stood (q ws : List ℕ) (first word place : ℕ) (out : List ℕ) (ends : Ends) (out' : List ℕ) : Type 0 where
-  pub output_is : out' ≡ put (4 * place) (bytes_of (head_of q ++ take (words_left q) (drop word ws))) out
-  pub first_is : ends.first ≡ first + 16
-  pub word_is : ends.word ≡ word + words_left q
-  pub at_is : ends.at ≡ place + at 15 q
-
--- ---- without a loop
--- the dword of a row without representations, but for bit 31
-abbrev pub flat_of : List ℕ → ℕ
-flat_of q = get_or (0 ∷ 1 ∷ 2 ∷ 6 ∷ 10 ∷ []) (at 1 q) 0 + at 2 q * 2 ^ 4 + at 0 q * 2 ^ 12 + at 6 q * 2 ^ 20
-
--- a row without representations, and so many words behind its head
-pub record Few (q : List ℕ) (k : ℕ) : Type 0 where
-  pub no_reprs : at 7 q ≡ 0
-  pub left_is : words_left q ≡ k
-
--- what a row is like that goes a short way
-pub record Way (q : List ℕ) (r : ℕ) : Type 0 where
-  pub one : r ≡ 1 → (at 3 q ≡ 0) × (at 7 q ≡ 0) × (at 6 q ≡ 1)
-  pub two : r ≡ 2 → (at 3 q ≡ 0) × (at 7 q ≡ 0) × (at 6 q ≡ 2)
-  pub modified : r ≡ 3 → (0 < at 3 q) × (at 7 q ≡ 0) × (at 6 q ≡ 1)
-  pub four : r ≡ 4 → (at 3 q ≡ 0) × (at 7 q ≡ 0) × (at 15 q ≡ 5)
-  pub immediate : r ≡ 5 → (at 3 q ≡ 0) × (at 7 q ≡ 0) × (at 15 q ≡ 2)
-  pub wordless : r ≡ 6 → (at 3 q ≡ 0) × (at 7 q ≡ 0) × (at 15 q ≡ 1)

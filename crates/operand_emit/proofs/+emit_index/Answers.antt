@@ -1,0 +1,50 @@
+use mathlib.Core.Path.{◌∙◌}
+use native.Mathlib.Omega.{arith}
+use Prim.Native.Nat.{◌-◌}
+use Rattle.operand_emit.proofs.Trees.{own_room, child_ready, nested, unnested, depth_left, row_within, row_fits, head_room, head_within, words_room, lone_emitted, first_ready, second_ready, third_ready, deep_emitted}
+use Rattle.operand_emit.proofs.+emit_index.Goals as goal
+
+pub emit-row_at-row-requires : goal.emit-row_at-row-requires
+emit-row_at-row-requires t c = let a = c.args in row_within a.left a.operands.now a.words.now a.from a.output.now c.requires
+
+pub emit-overflow_add-behind : goal.emit-overflow_add-behind
+emit-overflow_add-behind t c = let a = c.args in omega (arith, c.well_formed, row_within a.left a.operands.now a.words.now a.from a.output.now c.requires)
+
+pub emit-head-requires : goal.emit-head-requires
+emit-head-requires t c = let a = c.args in (row_fits a.left a.operands.now a.words.now a.from a.output.now c.requires c.row_at-row.ensures, head_room a.left a.operands.now a.words.now a.from a.output.now c.requires c.row_at-row.ensures)
+
+pub emit-overflow_sub-n : goal.emit-overflow_sub-n
+emit-overflow_sub-n t c = let a = c.args in head_within a.left a.operands.now a.words.now a.from a.output.now c.requires c.row_at-row.ensures c.head.ensures c.if-row-eq1.true
+
+pub emit-own_words-requires : goal.emit-own_words-requires
+emit-own_words-requires t c = let a = c.args in words_room a.left a.operands.now a.words.now a.from a.output.now c.requires c.row_at-row.ensures c.head.ensures c.if-row-eq1.true _ c.head.auto.output
+
+pub emit-returns-then-row-eq1 : goal.emit-returns-then-row-eq1
+emit-returns-then-row-eq1 t c = let a = c.args in lone_emitted a.left a.operands.now a.words.now a.from a.output.now c.requires c.row_at-row.ensures c.head.ensures c.if-row-eq1.true c.own_words.ensures.bytes c.own_words.ensures.place
+
+pub emit-dword-t-requires : goal.emit-dword-t-requires
+emit-dword-t-requires t c = let a = c.args in row_fits a.left a.operands.now a.words.now a.from a.output.now c.requires c.row_at-row.ensures
+
+pub emit-index-a-requires : goal.emit-index-a-requires
+emit-index-a-requires t c = let a = c.args in (omega (arith, c.requires), (depth_left a.left a.operands.now a.words.now a.from a.output.now c.requires, first_ready a.left a.operands.now a.words.now a.from a.output.now c.requires c.row_at-row.ensures c.head.ensures c.if-row-eq1.false c.dword-t.ensures c.repr.ensures _ c.head.auto.output))
+
+pub emit-index-b-requires : goal.emit-index-b-requires
+emit-index-b-requires t c = let a = c.args in (omega (arith, c.requires), (depth_left a.left a.operands.now a.words.now a.from a.output.now c.requires, second_ready a.left a.operands.now a.words.now a.from a.output.now c.requires c.row_at-row.ensures c.head.ensures c.if-row-eq1.false c.dword-t.ensures c.repr.ensures c.index-a.ensures c.repr-2.ensures _ (c.index-a.auto.output ∙ c.head.auto.output)))
+
+pub emit-index-requires : goal.emit-index-requires
+emit-index-requires t c = let a = c.args in (omega (arith, c.requires), (depth_left a.left a.operands.now a.words.now a.from a.output.now c.requires, third_ready a.left a.operands.now a.words.now a.from a.output.now c.requires c.row_at-row.ensures c.head.ensures c.if-row-eq1.false c.dword-t.ensures c.repr.ensures c.index-a.ensures c.repr-2.ensures c.index-b.ensures c.repr-3.ensures _ (c.index-b.auto.output ∙ c.index-a.auto.output ∙ c.head.auto.output)))
+
+pub emit-returns : goal.emit-returns
+emit-returns t c = let a = c.args in deep_emitted a.left a.operands.now a.words.now a.from a.output.now c.requires c.row_at-row.ensures c.head.ensures c.if-row-eq1.false c.dword-t.ensures c.repr.ensures c.index-a.ensures c.repr-2.ensures c.index-b.ensures c.repr-3.ensures c.index.ensures
+
+pub index-own_words-next-requires : goal.index-own_words-next-requires
+index-own_words-next-requires t c = let a = c.args in own_room (a.left - 1) a.r a.operands.now a.words.now a.from a.output.now c.requires.1 c.own.ensures
+
+pub index-returns-then-not-nests : goal.index-returns-then-not-nests
+index-returns-then-not-nests t c = let a = c.args in unnested (a.left - 1) a.r a.operands.now a.words.now a.from a.output.now c.requires.1 c.own.ensures c.nests.ensures c.own_words-next.ensures.place c.own_words-next.ensures.bytes c.if-not-nests.true
+
+pub index-emit-requires : goal.index-emit-requires
+index-emit-requires t c = let a = c.args in (omega (arith, c.requires), child_ready (a.left - 1) a.r a.operands.now a.words.now a.from a.output.now c.requires.1 c.own.ensures c.nests.ensures c.own_words-next.ensures.place c.if-not-nests.false _ c.own_words-next.auto.output)
+
+pub index-returns : goal.index-returns
+index-returns t c = let a = c.args in nested (a.left - 1) a.r a.operands.now a.words.now a.from a.output.now c.requires.1 c.own.ensures c.nests.ensures c.own_words-next.ensures.place c.own_words-next.ensures.bytes c.if-not-nests.false c.emit.ensures
