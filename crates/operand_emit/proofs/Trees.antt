@@ -49,9 +49,9 @@ index_all p i rs ws r w = every_if (known i && leb (own i) (length ws)) _ _
     met (record { own_there = leb-true (own i) (length ws) (both (known i) _ z).1; child = c; child_is = ec; is = refl })))
     (λ z. unmet)
 
-module _ (k i : ℕ) (rs ws : List ℕ) (from : Place) (out : List ℕ) (g : Ready (standing (confirm_index (confirm k) i) rs ws from.first from.word) from.at (length out)) where
-  parts : Index (confirm k) i (drop from.first rs) (drop from.word ws) (from.first / 16) from.word g.tree
-  parts = every_of g.is (index_all (confirm k) i (drop from.first rs) (drop from.word ws) (from.first / 16) from.word)
+module _ (k i : ℕ) (rs ws : List ℕ) (from : Place) (out : List ℕ) (g : Ready (standing (confirm_index (confirm k) i) rs ws from.operand from.word) from.at (length out)) where
+  parts : Index (confirm k) i (drop from.operand rs) (drop from.word ws) (from.operand / 16) from.word g.tree
+  parts = every_of g.is (index_all (confirm k) i (drop from.operand rs) (drop from.word ws) (from.operand / 16) from.word)
 
   abbrev X : List ℕ
   X = take (own i) (drop from.word ws)
@@ -67,33 +67,33 @@ module _ (k i : ℕ) (rs ws : List ℕ) (from : Place) (out : List ℕ) (g : Rea
   own_room eo = (omega (arith, parts.own_there, length-drop from.word ws), omega (arith, index_dwords, g.room))
 
   module _ {o : ℕ} (eo : o ≡ own i) {b : Bool} (eb : b ≡ nests i) {to : Place} (et : to ≡ record from { word = from.word + o; at = from.at + o }) where
-    child_at : b ≡ true → standing (confirm k) rs ws to.first to.word ≡ just parts.child
+    child_at : b ≡ true → standing (confirm k) rs ws to.operand to.word ≡ just parts.child
     child_at h =
         let z : nests i ≡ true = sym eb ∙ h in
-        let y : confirm k (drop from.first rs) (drop (own i) (drop from.word ws)) (from.first / 16) (from.word + own i) ≡ just parts.child = rw z at parts.child_is in
-        rw (et, eo) (ap (λ (l : List ℕ). confirm k (drop from.first rs) l (from.first / 16) (from.word + own i)) (sym (drop-drop (own i) from.word ws)) ∙ y)
+        let y : confirm k (drop from.operand rs) (drop (own i) (drop from.word ws)) (from.operand / 16) (from.word + own i) ≡ just parts.child = rw z at parts.child_is in
+        rw (et, eo) (ap (λ (l : List ℕ). confirm k (drop from.operand rs) l (from.operand / 16) (from.word + own i)) (sym (drop-drop (own i) from.word ws)) ∙ y)
 
-    pub child_ready : b ≡ true → (n : ℕ) → n ≡ length out → Ready (standing (confirm k) rs ws to.first to.word) to.at n
+    pub child_ready : b ≡ true → (n : ℕ) → n ≡ length out → Ready (standing (confirm k) rs ws to.operand to.word) to.at n
     child_ready h n e = record { tree = parts.child; is = child_at h; room = rw et (omega (arith, index_dwords, g.room)) }
 
     module _ {out₁ : List ℕ} (e₁ : out₁ ≡ put (4 * from.at) (bytes_of (take o (drop from.word ws))) out) where
       owned : out₁ ≡ put (4 * from.at) (bytes_of X) out
       owned = rw eo at e₁
 
-      pub nested : b ≡ true → {ends : Place} {out₂ : List ℕ} → Emitted (standing (confirm k) rs ws to.first to.word) to.first to.word to.at out₁ ends out₂ →
-          Emitted (standing (confirm_index (confirm k) i) rs ws from.first from.word) from.first from.word from.at out ends out₂
+      pub nested : b ≡ true → {ends : Place} {out₂ : List ℕ} → Emitted (standing (confirm k) rs ws to.operand to.word) to.operand to.word to.at out₁ ends out₂ →
+          Emitted (standing (confirm_index (confirm k) i) rs ws from.operand from.word) from.operand from.word from.at out ends out₂
       unfolding dwords tree_rows tree_words
       nested h {ends} {out₂} f =
-          let c : Emitted (just parts.child) from.first (from.word + o) (from.at + o) out₁ ends out₂ = rw et at (emitted_as (child_at h) f) in
+          let c : Emitted (just parts.child) from.operand (from.word + o) (from.at + o) out₁ ends out₂ = rw et at (emitted_as (child_at h) f) in
           emitted_of (g.is ∙ ap just parts.is)
           (record {
             output_is = dwords_more from.at (from.at + o) X (dwords parts.child) out (omega (arith, (own_room eo).1, own_length)) (omega (arith, own_length)) owned c.output_is;
-            first_is = c.first_is;
+            operand_is = c.operand_is;
             word_is = c.word_is ∙ omega (arith, length-append X (tree_words parts.child), own_length);
             at_is = c.at_is ∙ omega (arith, length-append X (dwords parts.child), own_length);
           })
 
-      pub unnested : b ≡ false → Emitted (standing (confirm_index (confirm k) i) rs ws from.first from.word) from.first from.word from.at out to out₁
+      pub unnested : b ≡ false → Emitted (standing (confirm_index (confirm k) i) rs ws from.operand from.word) from.operand from.word from.at out to out₁
       unfolding dwords tree_rows tree_words
       unnested h =
           let z : nests i ≡ false = sym eb ∙ h in
@@ -104,23 +104,23 @@ module _ (k i : ℕ) (rs ws : List ℕ) (from : Place) (out : List ℕ) (g : Rea
           (emitted_of (g.is ∙ ap just (parts.is ∙ ap (plain X) (sym c)))
           (record {
             output_is = owned ∙ ap (λ (j : List ℕ). put (4 * from.at) (bytes_of j) out) (sym (append-nil X));
-            first_is = sym (add-zero from.first);
+            operand_is = sym (add-zero from.operand);
             word_is = ap (λ (j : ℕ). from.word + j) (sym l);
             at_is = ap (λ (j : ℕ). from.at + j) (sym l);
           }))
 
 -- ---- an operand
-module _ (left : ℕ) (rs ws : List ℕ) (from : Place) (out : List ℕ) (g : Ready (standing (confirm left) rs ws from.first from.word) from.at (length out)) where
-  whole : Opened (confirm (left - 1)) (drop from.first rs) (drop from.word ws) (from.first / 16) from.word g.tree
-  whole = opens left (drop from.first rs) (drop from.word ws) (from.first / 16) from.word g.tree g.is
+module _ (left : ℕ) (rs ws : List ℕ) (from : Place) (out : List ℕ) (g : Ready (standing (confirm left) rs ws from.operand from.word) from.at (length out)) where
+  whole : Opened (confirm (left - 1)) (drop from.operand rs) (drop from.word ws) (from.operand / 16) from.word g.tree
+  whole = opens left (drop from.operand rs) (drop from.word ws) (from.operand / 16) from.word g.tree g.is
 
   pub depth_left : 0 < left
-  depth_left = some_left left (drop from.first rs) (drop from.word ws) (from.first / 16) from.word g.tree g.is
+  depth_left = some_left left (drop from.operand rs) (drop from.word ws) (from.operand / 16) from.word g.tree g.is
 
-  pub row_within : from.first + 16 ≤ length rs
-  row_within = omega (arith, whole.row_there, length-drop from.first rs)
+  pub row_within : from.operand + 16 ≤ length rs
+  row_within = omega (arith, whole.row_there, length-drop from.operand rs)
 
-  module _ {q : List ℕ} (eq : q ≡ row_from from.first rs) where
+  module _ {q : List ℕ} (eq : q ≡ row_from from.operand rs) where
     pub row_fits : Fits q
     row_fits = rw eq whole.fits
 
@@ -146,7 +146,7 @@ module _ (left : ℕ) (rs ws : List ℕ) (from : Place) (out : List ℕ) (g : Re
         lone_length = ap length lone_dwords ∙ length-append (head_of q) W
 
         words_front : drop from.word ws ≡ W ++ drop (length W) (drop from.word ws)
-        words_front = (sound left (drop from.first rs) (drop from.word ws) (from.first / 16) from.word g.tree g.is).words
+        words_front = (sound left (drop from.operand rs) (drop from.word ws) (from.operand / 16) from.word g.tree g.is).words
 
         pub end_within : 4 * (from.at + at 15 q) ≤ length out
         end_within = omega (arith, dwords_are, g.room)
@@ -161,20 +161,20 @@ module _ (left : ℕ) (rs ws : List ℕ) (from : Place) (out : List ℕ) (g : Re
         words_room n en = (omega (arith, left_is, ap length words_front, length-append W (drop (length W) (drop from.word ws)), length-drop from.word ws), omega (arith, end_within, head_within))
 
         pub lone_emitted : {to : Place} {out₂ : List ℕ} → out₂ ≡ put (4 * next) (bytes_of (take (from.at + at 15 q - next) (drop from.word ws))) out₁ →
-            to ≡ record { first = from.first + 16; word = from.word + (from.at + at 15 q - next); at = next + (from.at + at 15 q - next) } →
-            Emitted (standing (confirm left) rs ws from.first from.word) from.first from.word from.at out to out₂
+            to ≡ record { operand = from.operand + 16; word = from.word + (from.at + at 15 q - next); at = next + (from.at + at 15 q - next) } →
+            Emitted (standing (confirm left) rs ws from.operand from.word) from.operand from.word from.at out to out₂
         lone_emitted {to} {out₂} e et =
             let z : take (from.at + at 15 q - next) (drop from.word ws) ≡ W = ap (take (from.at + at 15 q - next)) words_front ∙ take_at W (drop (length W) (drop from.word ws)) (from.at + at 15 q - next) (sym left_is) in
             rw (et) (emitted_of g.is (record {
               output_is = rw lone_dwords (dwords_more from.at next (head_of q) W out (omega (arith, head_room)) hd.next_is hd.output_is (rw z at e));
-              first_is = omega (arith, rows_are, h);
+              operand_is = omega (arith, rows_are, h);
               word_is = ap (λ (j : ℕ). from.word + j) left_is;
               at_is = omega (arith, dwords_are, head_within);
             }))
 
       -- by its indices
       module _ (h : at 14 q ≡ 1 → ⊥) where
-        three : Indices (confirm (left - 1)) (drop from.first rs) (drop from.word ws) (from.first / 16) from.word g.tree
+        three : Indices (confirm (left - 1)) (drop from.operand rs) (drop from.word ws) (from.operand / 16) from.word g.tree
         three = whole.indices (λ e. h (rows_are ∙ e))
 
         abbrev A : Tree
@@ -191,7 +191,7 @@ module _ (left : ℕ) (rs ws : List ℕ) (from : Place) (out : List ℕ) (g : Re
 
         three_dwords : dwords g.tree ≡ head_of q ++ dwords A ++ dwords B ++ dwords C
         unfolding dwords
-        three_dwords = ap dwords three.is ∙ ap (λ (l : List ℕ). l ++ dwords A ++ dwords B ++ dwords C) (append-nil (head_of (row_from from.first rs)) ∙ ap head_of (sym eq))
+        three_dwords = ap dwords three.is ∙ ap (λ (l : List ℕ). l ++ dwords A ++ dwords B ++ dwords C) (append-nil (head_of (row_from from.operand rs)) ∙ ap head_of (sym eq))
 
         three_count : length (dwords g.tree) ≡ length (head_of q) + length (dwords A) + length (dwords B) + length (dwords C)
         three_count = ap length three_dwords ∙ four_lengths (head_of q) (dwords A) (dwords B) (dwords C)
@@ -203,37 +203,37 @@ module _ (left : ℕ) (rs ws : List ℕ) (from : Place) (out : List ℕ) (g : Re
         words_behind r s u e = drop-drop s r ws ∙ ap (λ (j : ℕ). drop j ws) (sym e)
 
         module _ {t : ℕ} (et : t ≡ operand_dword q) {i₀ : ℕ} (e₀ : i₀ ≡ repr 0 t) where
-          dword_is : t ≡ operand_dword (row_from from.first rs)
+          dword_is : t ≡ operand_dword (row_from from.operand rs)
           dword_is = et ∙ ap operand_dword eq
 
-          first_at : P i₀ (from.first + 16) from.word ≡ just A
-          first_at = rw (e₀, dword_is, ← (rows_behind from.first 1 (from.first + 16) refl), number_behind from.first 1 (from.first + 16) refl) three.first_is
+          first_at : P i₀ (from.operand + 16) from.word ≡ just A
+          first_at = rw (e₀, dword_is, ← (rows_behind from.operand 1 (from.operand + 16) refl), number_behind from.operand 1 (from.operand + 16) refl) three.first_is
 
-          pub first_ready : (n₁ : ℕ) → n₁ ≡ length out → Ready (P i₀ (from.first + 16) from.word) next n₁
+          pub first_ready : (n₁ : ℕ) → n₁ ≡ length out → Ready (P i₀ (from.operand + 16) from.word) next n₁
           first_ready n₁ e = record { tree = A; is = first_at; room = omega (arith, three_count, g.room, hd.next_is) }
 
-          module _ {ends₁ : Place} {out₂ : List ℕ} (f₀ : Emitted (P i₀ (from.first + 16) from.word) (from.first + 16) from.word next out₁ ends₁ out₂) {i₁ : ℕ} (e₁ : i₁ ≡ repr 1 t) where
-            put₀ : Emitted (just A) (from.first + 16) from.word next out₁ ends₁ out₂
+          module _ {ends₁ : Place} {out₂ : List ℕ} (f₀ : Emitted (P i₀ (from.operand + 16) from.word) (from.operand + 16) from.word next out₁ ends₁ out₂) {i₁ : ℕ} (e₁ : i₁ ≡ repr 1 t) where
+            put₀ : Emitted (just A) (from.operand + 16) from.word next out₁ ends₁ out₂
             put₀ = emitted_as first_at f₀
 
-            second_at : P i₁ ends₁.first ends₁.word ≡ just B
-            second_at = rw (e₁, dword_is, ← (rows_behind (from.first + 16) (tree_rows A) ends₁.first put₀.first_is), ← (words_behind from.word (length (tree_words A)) ends₁.word put₀.word_is), ← (rows_behind from.first 1 (from.first + 16) refl), number_behind (from.first + 16) (tree_rows A) ends₁.first put₀.first_is, number_behind from.first 1 (from.first + 16) refl, put₀.word_is) three.second_is
+            second_at : P i₁ ends₁.operand ends₁.word ≡ just B
+            second_at = rw (e₁, dword_is, ← (rows_behind (from.operand + 16) (tree_rows A) ends₁.operand put₀.operand_is), ← (words_behind from.word (length (tree_words A)) ends₁.word put₀.word_is), ← (rows_behind from.operand 1 (from.operand + 16) refl), number_behind (from.operand + 16) (tree_rows A) ends₁.operand put₀.operand_is, number_behind from.operand 1 (from.operand + 16) refl, put₀.word_is) three.second_is
 
-            pub second_ready : (n₁ : ℕ) → n₁ ≡ length out → Ready (P i₁ ends₁.first ends₁.word) ends₁.at n₁
+            pub second_ready : (n₁ : ℕ) → n₁ ≡ length out → Ready (P i₁ ends₁.operand ends₁.word) ends₁.at n₁
             second_ready n₁ e = record { tree = B; is = second_at; room = omega (arith, three_count, g.room, hd.next_is, put₀.at_is) }
 
-            module _ {ends₂ : Place} {out₃ : List ℕ} (f₁ : Emitted (P i₁ ends₁.first ends₁.word) ends₁.first ends₁.word ends₁.at out₂ ends₂ out₃) {i₂ : ℕ} (e₂ : i₂ ≡ repr 2 t) where
-              put₁ : Emitted (just B) ends₁.first ends₁.word ends₁.at out₂ ends₂ out₃
+            module _ {ends₂ : Place} {out₃ : List ℕ} (f₁ : Emitted (P i₁ ends₁.operand ends₁.word) ends₁.operand ends₁.word ends₁.at out₂ ends₂ out₃) {i₂ : ℕ} (e₂ : i₂ ≡ repr 2 t) where
+              put₁ : Emitted (just B) ends₁.operand ends₁.word ends₁.at out₂ ends₂ out₃
               put₁ = emitted_as second_at f₁
 
-              third_at : P i₂ ends₂.first ends₂.word ≡ just C
-              third_at = rw (e₂, dword_is, ← (rows_behind ends₁.first (tree_rows B) ends₂.first put₁.first_is), ← (words_behind ends₁.word (length (tree_words B)) ends₂.word put₁.word_is), ← (rows_behind (from.first + 16) (tree_rows A) ends₁.first put₀.first_is), ← (words_behind from.word (length (tree_words A)) ends₁.word put₀.word_is), ← (rows_behind from.first 1 (from.first + 16) refl), number_behind ends₁.first (tree_rows B) ends₂.first put₁.first_is, number_behind (from.first + 16) (tree_rows A) ends₁.first put₀.first_is, number_behind from.first 1 (from.first + 16) refl, put₁.word_is, put₀.word_is) three.third_is
+              third_at : P i₂ ends₂.operand ends₂.word ≡ just C
+              third_at = rw (e₂, dword_is, ← (rows_behind ends₁.operand (tree_rows B) ends₂.operand put₁.operand_is), ← (words_behind ends₁.word (length (tree_words B)) ends₂.word put₁.word_is), ← (rows_behind (from.operand + 16) (tree_rows A) ends₁.operand put₀.operand_is), ← (words_behind from.word (length (tree_words A)) ends₁.word put₀.word_is), ← (rows_behind from.operand 1 (from.operand + 16) refl), number_behind ends₁.operand (tree_rows B) ends₂.operand put₁.operand_is, number_behind (from.operand + 16) (tree_rows A) ends₁.operand put₀.operand_is, number_behind from.operand 1 (from.operand + 16) refl, put₁.word_is, put₀.word_is) three.third_is
 
-              pub third_ready : (n₁ : ℕ) → n₁ ≡ length out → Ready (P i₂ ends₂.first ends₂.word) ends₂.at n₁
+              pub third_ready : (n₁ : ℕ) → n₁ ≡ length out → Ready (P i₂ ends₂.operand ends₂.word) ends₂.at n₁
               third_ready n₁ e = record { tree = C; is = third_at; room = omega (arith, three_count, g.room, hd.next_is, put₀.at_is, put₁.at_is) }
 
-              module _ {ends₃ : Place} {out₄ : List ℕ} (f₂ : Emitted (P i₂ ends₂.first ends₂.word) ends₂.first ends₂.word ends₂.at out₃ ends₃ out₄) where
-                put₂ : Emitted (just C) ends₂.first ends₂.word ends₂.at out₃ ends₃ out₄
+              module _ {ends₃ : Place} {out₄ : List ℕ} (f₂ : Emitted (P i₂ ends₂.operand ends₂.word) ends₂.operand ends₂.word ends₂.at out₃ ends₃ out₄) where
+                put₂ : Emitted (just C) ends₂.operand ends₂.word ends₂.at out₃ ends₃ out₄
                 put₂ = emitted_as third_at f₂
 
                 abbrev H : List ℕ
@@ -257,12 +257,12 @@ module _ (left : ℕ) (rs ws : List ℕ) (from : Place) (out : List ℕ) (g : Re
                 unfolding tree_words
                 deep_words = ap (λ (x : Tree). length (tree_words x)) three.is ∙ four_lengths [] (tree_words A) (tree_words B) (tree_words C) ∙ omega arith
 
-                pub deep_emitted : Emitted (standing (confirm left) rs ws from.first from.word) from.first from.word from.at out ends₃ out₄
+                pub deep_emitted : Emitted (standing (confirm left) rs ws from.operand from.word) from.operand from.word from.at out ends₃ out₄
                 deep_emitted =
                     emitted_of g.is
                     (record {
                       output_is = written ∙ ap (λ (l : List ℕ). put (4 * from.at) (bytes_of l) out) (sym three_dwords);
-                      first_is = omega (arith, deep_rows, put₀.first_is, put₁.first_is, put₂.first_is);
+                      operand_is = omega (arith, deep_rows, put₀.operand_is, put₁.operand_is, put₂.operand_is);
                       word_is = omega (arith, deep_words, put₀.word_is, put₁.word_is, put₂.word_is);
                       at_is = omega (arith, three_count, hd.next_is, put₀.at_is, put₁.at_is, put₂.at_is);
                     })

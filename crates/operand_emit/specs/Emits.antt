@@ -31,7 +31,7 @@ pub record Ready (o : Option Tree) (place n : ℕ) : Type 0 where
 -- its dwords stand there; what is behind it: a place where a row begins, a word, and a dword of the output
 pub record Emitted (o : Option Tree) (first word place : ℕ) (out : List ℕ) (ends : Place) (out' : List ℕ) : Type 0 where
   pub output_is : out' ≡ put (4 * place) (bytes_of (dwords (tree_in o))) out
-  pub first_is : ends.first ≡ first + 16 * tree_rows (tree_in o)
+  pub operand_is : ends.operand ≡ first + 16 * tree_rows (tree_in o)
   pub word_is : ends.word ≡ word + length (tree_words (tree_in o))
   pub at_is : ends.at ≡ place + length (dwords (tree_in o))
 

@@ -8,12 +8,12 @@ ghost use Rattle.output.specs.Puts.{put, Headed};
 ghost use Rattle.operand_deep.specs.Confirm as c;
 ghost use Rattle.operand_emit.specs.Emits as w;
 
-use output::{copy, put_dword};
+use output::{copy, put_dword, put_some};
 
 // Where the row of the next operand begins, the next word, and the next dword of the output.
 #[derive(Clone, Copy)]
 pub struct Place {
-    pub first: usize,
+    pub operand: usize,
     pub word: usize,
     pub at: usize,
 }
@@ -68,22 +68,18 @@ fn head(row: &[u32; 16], output: &mut [u8], at: usize) -> usize
     ensures { Headed (w.head_of row.now) at output.old result output.new }
 {
     put_dword(output, at, dword(row));
-    let Some(x) = extension(row[3]) else {
-        return at + 1;
-    };
-    put_dword(output, at + 1, x);
-    at + 2
+    put_some(output, at + 1, extension(row[3]))
 }
 
-// Copies n words; gives the place behind them.
-fn own_words(words: &[u32], from: Place, n: usize, output: &mut [u8]) -> Place
+// Writes n words; gives the place behind them.
+pub fn write_words(words: &[u32], from: Place, n: usize, output: &mut [u8]) -> Place
     requires { (n ≤ length words.now - from.word) × (4 * (from.at + n) ≤ length output.old) }
     ensures bytes { output.new ≡ put (4 * from.at) (bytes_of (take n (drop from.word words.now))) output.old }
     ensures place { result ≡ record from { word = from.word + n; at = from.at + n } }
 {
     copy(words, from.word, n, output, from.at);
     Place {
-        first: from.first,
+        operand: from.operand,
         word: from.word + n,
         at: from.at + n,
     }
@@ -99,10 +95,10 @@ fn index(
     left: usize,
     output: &mut [u8],
 ) -> Place
-    requires { (0 < left) × w.Ready (w.standing (c.confirm_index (c.confirm (left - 1)) r) operands.now words.now from.first from.word) from.at (length output.old) }
-    ensures { w.Emitted (w.standing (c.confirm_index (c.confirm (left - 1)) r) operands.now words.now from.first from.word) from.first from.word from.at output.old result output.new }
+    requires { (0 < left) × w.Ready (w.standing (c.confirm_index (c.confirm (left - 1)) r) operands.now words.now from.operand from.word) from.at (length output.old) }
+    ensures { w.Emitted (w.standing (c.confirm_index (c.confirm (left - 1)) r) operands.now words.now from.operand from.word) from.operand from.word from.at output.old result output.new }
 {
-    let next = own_words(words, from, tokens::own(r), output);
+    let next = write_words(words, from, tokens::own(r), output);
     if !tokens::nests(r) {
         return next;
     }
@@ -113,18 +109,18 @@ fn index(
 // it, or else its indices.
 #[cycle(emit_index)]
 pub fn emit(operands: &[u32], words: &[u32], from: Place, left: usize, output: &mut [u8]) -> Place
-    requires { w.Ready (w.standing (c.confirm left) operands.now words.now from.first from.word) from.at (length output.old) }
-    ensures { w.Emitted (w.standing (c.confirm left) operands.now words.now from.first from.word) from.first from.word from.at output.old result output.new }
+    requires { w.Ready (w.standing (c.confirm left) operands.now words.now from.operand from.word) from.at (length output.old) }
+    ensures { w.Emitted (w.standing (c.confirm left) operands.now words.now from.operand from.word) from.operand from.word from.at output.old result output.new }
 {
-    let row = row_at(operands, from.first);
+    let row = row_at(operands, from.operand);
     let behind = Place {
-        first: from.first + 16,
+        operand: from.operand + 16,
         word: from.word,
         at: head(row, output, from.at),
     };
     if row[14] == 1 {
         let n = from.at + row[15] as usize - behind.at;
-        return own_words(words, behind, n, output);
+        return write_words(words, behind, n, output);
     }
     let t = dword(row);
     let a = index(operands, words, behind, tokens::repr(0, t), left, output);

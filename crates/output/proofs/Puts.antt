@@ -13,7 +13,7 @@ use Rattle.std.proofs.lemmas.Slice.{put_mid-paste}
 use borrow.Rule.Slice.PartMut.{put_mid}
 use Rattle.format.specs.Dwords.{bytes_of}
 use Rattle.format.proofs.Dwords.{length_bytes}
-use Rattle.output.specs.Puts.{put}
+use Rattle.output.specs.Puts.{put, Headed}
 
 -- ---- the bytes of dwords
 pub bytes_append : (k l : List ℕ) → bytes_of (k ++ l) ≡ bytes_of k ++ bytes_of l
@@ -52,6 +52,9 @@ dwords_length at l out h = put_length (4 * at) (bytes_of l) out (omega (arith, l
 pub dwords_none : (at : ℕ) (out : List ℕ) → out ≡ put (4 * at) (bytes_of []) out
 unfolding bytes_of
 dwords_none at out = sym (put_none (4 * at) out)
+
+pub headed_none : (at : ℕ) (out : List ℕ) → Headed [] at out at out
+headed_none at out = record { next_is = sym (add-zero at); output_is = dwords_none at out }
 
 pub dwords_more : (at next : ℕ) (k l out : List ℕ) → 4 * (at + length k) ≤ length out → next ≡ at + length k → {out₁ out₂ : List ℕ} →
     out₁ ≡ put (4 * at) (bytes_of k) out → out₂ ≡ put (4 * next) (bytes_of l) out₁ → out₂ ≡ put (4 * at) (bytes_of (k ++ l)) out

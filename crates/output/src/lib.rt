@@ -1,9 +1,9 @@
 // Stores dwords and words in an output.
 #![tactic(auto)]
 
-ghost use Rattle.std.specs.Prelude.{◌≡◌, [], ◌∷◌, ◌+◌, ◌-◌, ◌*◌, ◌≤◌, length, take, drop};
+ghost use Rattle.std.specs.Prelude.{◌≡◌, [], ◌∷◌, ◌+◌, ◌-◌, ◌*◌, ◌≤◌, length, take, drop, option_to_list};
 ghost use Rattle.format.specs.Dwords.{bytes_of};
-ghost use Rattle.output.specs.Puts.{put};
+ghost use Rattle.output.specs.Puts.{put, Headed};
 
 // Stores a dword's four bytes, the lowest first.
 pub fn put_dword(output: &mut [u8], at: usize, x: u32)
@@ -12,6 +12,18 @@ pub fn put_dword(output: &mut [u8], at: usize, x: u32)
 {
     let i = 4 * at;
     output[i..i + 4].copy_from_slice(&x.to_le_bytes());
+}
+
+// Stores a dword, if there is one; gives the dword of the output behind it.
+pub fn put_some(output: &mut [u8], at: usize, x: Option<u32>) -> usize
+    requires { 4 * (at + length (option_to_list x)) ≤ length output.old }
+    ensures { Headed (option_to_list x) at output.old result output.new }
+{
+    let Some(x) = x else {
+        return at;
+    };
+    put_dword(output, at, x);
+    at + 1
 }
 
 // Copies n words from a word on, one after the other.

@@ -16,11 +16,11 @@ emit-head-requires t c = let a = c.args in (row_fits a.left a.operands.now a.wor
 pub emit-overflow_sub-n : goal.emit-overflow_sub-n
 emit-overflow_sub-n t c = let a = c.args in head_within a.left a.operands.now a.words.now a.from a.output.now c.requires c.row_at-row.ensures c.head.ensures c.if-row-eq1.true
 
-pub emit-own_words-requires : goal.emit-own_words-requires
-emit-own_words-requires t c = let a = c.args in words_room a.left a.operands.now a.words.now a.from a.output.now c.requires c.row_at-row.ensures c.head.ensures c.if-row-eq1.true _ c.head.auto.output
+pub emit-write_words-requires : goal.emit-write_words-requires
+emit-write_words-requires t c = let a = c.args in words_room a.left a.operands.now a.words.now a.from a.output.now c.requires c.row_at-row.ensures c.head.ensures c.if-row-eq1.true _ c.head.auto.output
 
 pub emit-returns-then-row-eq1 : goal.emit-returns-then-row-eq1
-emit-returns-then-row-eq1 t c = let a = c.args in lone_emitted a.left a.operands.now a.words.now a.from a.output.now c.requires c.row_at-row.ensures c.head.ensures c.if-row-eq1.true c.own_words.ensures.bytes c.own_words.ensures.place
+emit-returns-then-row-eq1 t c = let a = c.args in lone_emitted a.left a.operands.now a.words.now a.from a.output.now c.requires c.row_at-row.ensures c.head.ensures c.if-row-eq1.true c.write_words.ensures.bytes c.write_words.ensures.place
 
 pub emit-dword-t-requires : goal.emit-dword-t-requires
 emit-dword-t-requires t c = let a = c.args in row_fits a.left a.operands.now a.words.now a.from a.output.now c.requires c.row_at-row.ensures
@@ -37,14 +37,14 @@ emit-index-requires t c = let a = c.args in (omega (arith, c.requires), (depth_l
 pub emit-returns : goal.emit-returns
 emit-returns t c = let a = c.args in deep_emitted a.left a.operands.now a.words.now a.from a.output.now c.requires c.row_at-row.ensures c.head.ensures c.if-row-eq1.false c.dword-t.ensures c.repr.ensures c.index-a.ensures c.repr-2.ensures c.index-b.ensures c.repr-3.ensures c.index.ensures
 
-pub index-own_words-next-requires : goal.index-own_words-next-requires
-index-own_words-next-requires t c = let a = c.args in own_room (a.left - 1) a.r a.operands.now a.words.now a.from a.output.now c.requires.1 c.own.ensures
+pub index-write_words-next-requires : goal.index-write_words-next-requires
+index-write_words-next-requires t c = let a = c.args in own_room (a.left - 1) a.r a.operands.now a.words.now a.from a.output.now c.requires.1 c.own.ensures
 
 pub index-returns-then-not-nests : goal.index-returns-then-not-nests
-index-returns-then-not-nests t c = let a = c.args in unnested (a.left - 1) a.r a.operands.now a.words.now a.from a.output.now c.requires.1 c.own.ensures c.nests.ensures c.own_words-next.ensures.place c.own_words-next.ensures.bytes c.if-not-nests.true
+index-returns-then-not-nests t c = let a = c.args in unnested (a.left - 1) a.r a.operands.now a.words.now a.from a.output.now c.requires.1 c.own.ensures c.nests.ensures c.write_words-next.ensures.place c.write_words-next.ensures.bytes c.if-not-nests.true
 
 pub index-emit-requires : goal.index-emit-requires
-index-emit-requires t c = let a = c.args in (omega (arith, c.requires), child_ready (a.left - 1) a.r a.operands.now a.words.now a.from a.output.now c.requires.1 c.own.ensures c.nests.ensures c.own_words-next.ensures.place c.if-not-nests.false _ c.own_words-next.auto.output)
+index-emit-requires t c = let a = c.args in (omega (arith, c.requires), child_ready (a.left - 1) a.r a.operands.now a.words.now a.from a.output.now c.requires.1 c.own.ensures c.nests.ensures c.write_words-next.ensures.place c.if-not-nests.false _ c.write_words-next.auto.output)
 
 pub index-returns : goal.index-returns
-index-returns t c = let a = c.args in nested (a.left - 1) a.r a.operands.now a.words.now a.from a.output.now c.requires.1 c.own.ensures c.nests.ensures c.own_words-next.ensures.place c.own_words-next.ensures.bytes c.if-not-nests.false c.emit.ensures
+index-returns t c = let a = c.args in nested (a.left - 1) a.r a.operands.now a.words.now a.from a.output.now c.requires.1 c.own.ensures c.nests.ensures c.write_words-next.ensures.place c.write_words-next.ensures.bytes c.if-not-nests.false c.emit.ensures
