@@ -20,16 +20,14 @@ use Rattle.format.proofs.Dwords.{impossible, both}
 use Rattle.operand_deep.specs.Confirm.{Confirmer, behind, confirm_index, confirmed, confirm_immediates, confirm_indices, confirm_front, confirm}
 use Rattle.operand_deep.proofs.Every.{Every, unmet, met, every_then, every_if}
 use Rattle.instruction_deep.specs.Confirm.{confirm_words, confirm_item, confirm_items}
-use Rattle.instruction_emit.specs.Emits.{confirm_run, before}
+use Rattle.operand_emit.proofs.Opened.{every_self}
+use Rattle.instruction_emit.specs.Emits.{before}
+use Rattle.instruction_emit.proofs.Runs.{confirm_run}
 
 -- what there is, with its equation
 every_with : {A : Type 0} {P : A → Type 0} {x : Option A} → Every P x → Every (λ a. P a × (x ≡ just a)) x
 every_with unmet = unmet
 every_with (met p) = met (p, refl)
-
-pub every_is : {A : Type 0} (x : Option A) → Every (λ a. x ≡ just a) x
-every_is nothing = unmet
-every_is (just a) = met refl
 
 -- ---- an operand is one of the top level
 abbrev Top : Tree → Type 0
@@ -46,9 +44,9 @@ confirmed_top q r w t e m a b c = every_if (same q (operand_row r w t e m a b c)
 indices_top : (p : Confirmer) (q : List ℕ) (t : ℕ) (e rs ws : List ℕ) (r w : ℕ) → Every Top (confirm_indices p q t e rs ws r w)
 unfolding confirm_indices
 indices_top p q t e rs ws r w =
-    every_then (every_is (confirm_index p (op.repr 0 t) rs ws (r + 1) w)) (λ a y.
-    every_then (every_is (behind a (confirm_index p (op.repr 1 t)) rs ws (r + 1) w)) (λ b y.
-    every_then (every_is (behind a (behind b (confirm_index p (op.repr 2 t))) rs ws (r + 1) w)) (λ c y. confirmed_top q r w t e [] a b c)))
+    every_then (every_self (confirm_index p (op.repr 0 t) rs ws (r + 1) w)) (λ a y.
+    every_then (every_self (behind a (confirm_index p (op.repr 1 t)) rs ws (r + 1) w)) (λ b y.
+    every_then (every_self (behind a (behind b (confirm_index p (op.repr 2 t))) rs ws (r + 1) w)) (λ c y. confirmed_top q r w t e [] a b c)))
 
 operand_top : (k : ℕ) (rs ws : List ℕ) (r w : ℕ) → Every Top (confirm k rs ws r w)
 unfolding confirm confirm_front confirm_immediates

@@ -1,4 +1,5 @@
+pub mod Heads
+pub mod Runs
 pub mod Items
 pub mod Opened
-pub mod Heads
 pub mod Emitting

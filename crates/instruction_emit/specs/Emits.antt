@@ -1,19 +1,14 @@
 -- What is written of an instruction whose row, operand rows and words were confirmed: the bytes of its dwords.
-use Rattle.std.specs.Prelude.{ℕ, zero, suc, ◌+◌, ◌*◌, ◌/◌, ◌^◌, ◌<◌, ◌≤◌, ◌≡◌, Bool, true, false, cond, ◌&&◌, ◌||◌, List, [], ◌∷◌, ◌++◌, length, take, drop, eqb, ltb}
-use Rattle.std.proofs.Math.Option.{Option, none as nothing, some as just}
+use Rattle.std.specs.Prelude.{ℕ, ◌+◌, ◌*◌, ◌/◌, ◌^◌, ◌<◌, ◌≤◌, ◌≡◌, Bool, false, cond, List, [], ◌∷◌, ◌++◌, length, take, eqb}
+use Rattle.std.proofs.Math.Option.{some as just}
 use Rattle.format.specs.Dwords.{bytes_of}
 use Rattle.format.specs.Declarations.{layout}
-use Rattle.format.specs.Operands as op
-use Rattle.format.specs.Operands.{Tree}
 use Rattle.format.specs.Instructions.{Instruction, dwords}
-use Rattle.format.specs.Rows.{parts_rows, parts_words, parts}
-use Rattle.format.specs.Encoder.{at, sized_row, token_of_row, head_of_row}
-use Rattle.operand_deep.specs.Confirm.{Confirms, ◌>>=◌, behind, confirm}
+use Rattle.format.specs.Rows.{parts_rows, parts}
+use Rattle.format.specs.Encoder.{at, chain_of, sized_row, token_of_row, head_of_row}
 use Rattle.output.specs.Puts.{put, Headed}
-use Rattle.operand_emit.specs.declared.Ends as operand-ends
 use Rattle.instruction_deep.specs.Confirm.{confirm_instruction}
-use Rattle.instruction_emit.specs.declared.Ends.{Ends}
-use Rattle.instruction_emit.specs.declared.Place.{Place}
+use Rattle.operand_emit.specs.declared.Place.{Place}
 
 -- the row q, operand rows and words are confirmed to be those of an instruction: under some ceiling, in some model, at some
 -- place; the number of the first operand row is the 16th part of the place where it begins
@@ -31,13 +26,13 @@ pub record Ready (q rs ws : List ℕ) (operand word place n : ℕ) : Type 0 wher
   pub room : 4 * (place + length (dwords instruction)) ≤ n
 
 -- the dwords of an instruction stand there; what is behind it: a place where an operand row begins, and a dword of the output
-pub record Stands (i : Instruction) (operand place : ℕ) (out : List ℕ) (ends : Ends) (out' : List ℕ) : Type 0 where
+pub record Stands (i : Instruction) (operand place : ℕ) (out : List ℕ) (ends : Place) (out' : List ℕ) : Type 0 where
   pub output_is : out' ≡ put (4 * place) (bytes_of (dwords i)) out
   pub operand_is : ends.operand ≡ operand + 16 * parts_rows (parts i)
   pub at_is : ends.at ≡ place + length (dwords i)
 
 -- those of the instruction whose row, operand rows and words these are
-abbrev pub Emitted : List ℕ → List ℕ → List ℕ → ℕ → ℕ → ℕ → List ℕ → Ends → List ℕ → Type 0
+abbrev pub Emitted : List ℕ → List ℕ → List ℕ → ℕ → ℕ → ℕ → List ℕ → Place → List ℕ → Type 0
 Emitted q rs ws operand word place out ends out' = (i : Instruction) → Is q rs ws operand word i → Stands i operand place out ends out'
 
 -- ---- the token, and what stands after it
@@ -48,9 +43,9 @@ packed code field saturate test precise = code + field * 2 ^ 11 + saturate * 2 ^
 abbrev pub low_of : List ℕ → ℕ
 low_of q = packed (at 2 q) (at 7 q) (at 4 q) (at 5 q) (at 6 q)
 
--- the length is in the next dword, by the code and the extension bits
-abbrev pub sized_by : ℕ → ℕ → Bool
-sized_by code bits = eqb code 53 || (eqb code 145 || eqb code 146) && ltb 0 bits
+-- the chain of extensions of a row
+abbrev pub chain_of_row : List ℕ → List ℕ
+chain_of_row q = chain_of (at 8 q) (at 9 q) (at 10 q) (at 11 q)
 
 -- the numbers of a row whose token was exact
 pub record Fits (q : List ℕ) : Type 0 where
@@ -91,56 +86,3 @@ pub record FrontReady (q : List ℕ) (ws word place n : ℕ) : Type 0 where
 pub record Fronted (q ws : List ℕ) (word place : ℕ) (out : List ℕ) (f : Place) (out' : List ℕ) : Type 0 where
   pub word_is : f.word ≡ word + lead_of q
   pub headed : Headed (front_of q ws) place out f.at out'
-
--- a row of kind 1 whose token has only a code and a length
-pub record Bare (q : List ℕ) (b : Bool) : Type 0 where
-  pub kind_one : b ≡ true → (at 3 q ≡ 1) × (at 4 q ≡ 0)
-  pub no_flags : b ≡ true → (at 5 q ≡ 0) × (at 6 q ≡ 0)
-  pub nothing_after : b ≡ true → (at 7 q ≡ 0) × (at 8 q ≡ 0)
-
--- ---- the parts
--- n operands, one after the other
-unfoldable pub confirm_run : ℕ → Confirms (List Tree)
-confirm_run zero rs ws r w = just []
-confirm_run (suc n) rs ws r w = do
-  x ← confirm 64 rs ws r w
-  xs ← behind x (confirm_run n) rs ws r w
-  just (x ∷ xs)
-
--- those of two pools from a row that begins at a place, and from a word on
-abbrev pub run_at : ℕ → List ℕ → List ℕ → ℕ → ℕ → Option (List Tree)
-run_at n rs ws operand w = confirm_run n (drop operand rs) (drop w ws) (operand / 16) w
-
-abbrev pub trees_in : Option (List Tree) → List Tree
-trees_in nothing = []
-trees_in (just xs) = xs
-
--- there are so many operands, and there is room for their dwords
-pub record RunReady (o : Option (List Tree)) (place n : ℕ) : Type 0 where
-  pub trees : List Tree
-  pub is : o ≡ just trees
-  pub room : 4 * (place + length (op.parts_dwords trees)) ≤ n
-
--- their dwords stand there
-pub record Ran (o : Option (List Tree)) (operand word place : ℕ) (out : List ℕ) (ends : operand-ends.Ends) (out' : List ℕ) : Type 0 where
-  pub output_is : out' ≡ put (4 * place) (bytes_of (op.parts_dwords (trees_in o))) out
-  pub first_is : ends.first ≡ operand + 16 * parts_rows (trees_in o)
-  pub word_is : ends.word ≡ word + length (parts_words (trees_in o))
-  pub at_is : ends.at ≡ place + length (op.parts_dwords (trees_in o))
-
--- the dwords of operands, and the words behind theirs
-abbrev pub rest : List ℕ → List Tree → List ℕ
-rest ws xs = op.parts_dwords xs ++ drop (length (parts_words xs)) ws
-
--- the operands and the words are there, and there is room for all dwords
-pub record PartsReady (o : Option (List Tree)) (ws : List ℕ) (place n : ℕ) : Type 0 where
-  pub trees : List Tree
-  pub is : o ≡ just trees
-  pub words_there : length (parts_words trees) ≤ length ws
-  pub room : 4 * (place + length (rest ws trees)) ≤ n
-
--- all dwords stand there
-pub record Parted (o : Option (List Tree)) (ws : List ℕ) (operand place : ℕ) (out : List ℕ) (ends : Ends) (out' : List ℕ) : Type 0 where
-  pub output_is : out' ≡ put (4 * place) (bytes_of (rest ws (trees_in o))) out
-  pub operand_is : ends.operand ≡ operand + 16 * parts_rows (trees_in o)
-  pub at_is : ends.at ≡ place + length (rest ws (trees_in o))
