@@ -5,7 +5,7 @@ use mathlib.Core.List.{[], ◌∷◌, map}
 use mathlib.Core.Bool.{Bool, true, false, cond, ◌&&◌}
 use native.Mathlib.Nat.{mod-add-div}
 use native.Mathlib.Omega.{arith}
-use lib.ListN.{get_or-eq_default}
+use lib.ListN.{get_or, get_or-eq_default}
 use lib.Pow.{field}
 use lib.Dec.{eqb, ltb}
 use lib.Bits.{bit_and}
@@ -15,11 +15,12 @@ use Rattle.format.specs.Counts.{numbers}
 use Rattle.format.specs.Operands.{form, selection, type_of, dimension, reprs, exact_dword}
 use Rattle.format.proofs.Dwords.{bits_above, both}
 use Rattle.format.proofs.Each.{below}
+use Rattle.tokens.specs.declared.TheConstants.{FORMS, SELECTED}
 use Rattle.tokens.specs.Low.{allowed_bits}
 use Rattle.tokens.proofs.Fields.{chosen, mask, low, reprs_small}
 
 -- the form, by the lowest four bits
-forms : map (λ k. 0x0010_0410_0310_0210 / 2 ^ (k * 4) % 16) (numbers 16 0) ≡ map form (numbers 16 0)
+forms : map {B = ℕ} (λ k. get_or FORMS k 0) (numbers 16 0) ≡ map form (numbers 16 0)
 unfolding numbers form
 forms = refl
 
@@ -27,18 +28,18 @@ form_low : (t n : ℕ) → t % 2 ^ 2 ≡ n % 2 ^ 2 → bits 2 3 t ≡ bits 2 3 n
 unfolding form
 form_low t n a b = rw (a, b)
 
-pub form_digit : (t : ℕ) → 0x0010_0410_0310_0210 / 2 ^ (t % 16 * 4) % 16 ≡ form t
-form_digit t =
+pub form_entry : (t : ℕ) → get_or FORMS (t % 16) 0 ≡ form t
+form_entry t =
     let a : t % 16 / 2 ^ 2 ≡ t / 2 ^ 2 % 2 ^ 2 = field t 2 2 in
     below _ _ 16 forms (t % 16) (omega arith) ∙ form_low (t % 16) t (omega arith) (omega (arith, a))
 
 -- the bits of a form's selection
-masks : map (λ f. 0x03_FF0F_0000 / 2 ^ (f * 8) % 256) (numbers 5 0) ≡ map mask (numbers 5 0)
+masks : map {B = ℕ} (λ f. get_or SELECTED f 0) (numbers 5 0) ≡ map mask (numbers 5 0)
 unfolding numbers
 masks = refl
 
-pub mask_digits : (f : ℕ) → f < 5 → 0x03_FF0F_0000 / 2 ^ (f * 8) % 256 ≡ mask f
-mask_digits f h = below _ _ 5 masks f h
+pub mask_entry : (f : ℕ) → f < 5 → get_or SELECTED f 0 ≡ mask f
+mask_entry f h = below _ _ 5 masks f h
 
 pub allowed_none : (k : ℕ) → (k ≡ 1 → ⊥) → (k ≡ 2 → ⊥) → (k ≡ 6 → ⊥) → (k ≡ 10 → ⊥) → 0 ≡ allowed_bits k
 unfolding numbers

@@ -4,7 +4,7 @@ use mathlib.Core.Path.{◌≡◌, refl, sym, ap, ◌∙◌}
 use mathlib.Core.List.{map}
 use mathlib.Core.Bool.{Bool, true, false, ◌&&◌}
 use native.Mathlib.Omega.{arith}
-use lib.ListN.{get_or-eq_default}
+use lib.ListN.{get_or}
 use lib.Dec.{eqb, ltb}
 use lib.Bits.{bit_and, and_block, and_mask, and_zero_r, and_le_l}
 use borrow.Author.Tests.{eqb-true, eqb-false, eq-eqb, ne_eqb, ltb-true, ltb-false, lt-ltb, le-ltb}
@@ -13,23 +13,23 @@ use Rattle.format.specs.Counts.{numbers}
 use Rattle.format.specs.Dwords.{bits_from}
 use Rattle.format.specs.Operands.{dimension, form, immediate, immediates, reprs, exact_dword}
 use Rattle.format.proofs.Each.{below}
+use Rattle.tokens.specs.declared.TheConstants.{STRAYS}
 use Rattle.tokens.specs.Low.{allowed_bits}
-use Rattle.tokens.specs.Usuals.{strays, stray_bits, usual_length}
+use Rattle.tokens.specs.Usuals.{stray_bits, usual_length}
 use Rattle.tokens.proofs.Fields.{counted, form_small}
 use Rattle.tokens.proofs.Low.{exact_by_parts}
-
-pub up : (i k : ℕ) → i ≤ k → (k ≡ i → ⊥) → suc i ≤ k
-up i k h n = omega arith
-
-stray_past : (k : ℕ) → 11 ≤ k → 0xFFC0_0FFF ≡ stray_bits k
-stray_past k h = sym (get_or-eq_default strays 0xFFC0_0FFF h)
 
 and-true : (a : Bool) → (a && true) ≡ a
 and-true true = refl
 and-true false = refl
 
-pub stray_after : (k : ℕ) → 15 ≤ k → 0xFFC0_0FFF ≡ stray_bits k
-stray_after k h = stray_past k (omega arith)
+-- the entry of a dword's lowest four bits
+entries : map (λ k. get_or STRAYS k 0) (numbers 16 0) ≡ map stray_bits (numbers 16 0)
+unfolding numbers
+entries = refl
+
+pub stray_entry : (t : ℕ) → get_or STRAYS (t % 16) 0 ≡ stray_bits (t % 16)
+stray_entry t = below _ _ 16 entries (t % 16) (omega arith)
 
 -- the part of a mask below bit 12
 abbrev low : ℕ → ℕ

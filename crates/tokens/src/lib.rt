@@ -1,7 +1,7 @@
 // Dwords out of bytes, the fields of an operand's dword, and chains of extensions.
 #![tactic(auto)]
 
-ghost use Rattle.std.specs.Prelude.{◌≡◌, List, [], ◌∷◌, ℕ, ◌+◌, ◌*◌, ◌-◌, ◌/◌, ◌^◌, ◌<◌, ◌≤◌, length, get_or, drop, ◌&&◌, eqb, ltb};
+ghost use Rattle.std.specs.Prelude.{◌≡◌, List, [], ◌∷◌, ℕ, ◌+◌, ◌*◌, ◌-◌, ◌/◌, ◌%◌, ◌^◌, ◌<◌, ◌≤◌, length, get_or, drop, ◌&&◌, eqb, ltb};
 ghost use Rattle.std.proofs.Math.Seq.{slice};
 ghost use Rattle.format.specs.Dwords as d;
 ghost use Rattle.format.specs.Dwords.{dwords_of};
@@ -89,25 +89,23 @@ pub fn immediate(t: u32) -> bool
     k == 4 || k == 5
 }
 
-// 0 none, 1 one, 2 mask, 3 swizzle, 4 scalar: a digit of the number for each value of the lowest four bits.
+// The form by a dword's lowest four bits.
+static FORMS: [u32; 16] = [0, 1, 2, 0, 0, 1, 3, 0, 0, 1, 4, 0, 0, 1, 0, 0];
+
+// 0 none, 1 one, 2 mask, 3 swizzle, 4 scalar: the number that rows hold.
 pub fn form(t: u32) -> u32
     ensures { result ≡ op.form t }
 {
-    ((0x0010_0410_0310_0210u64 >> (t % 16 * 4)) % 16) as u32
+    FORMS[(t % 16) as usize]
 }
 
-// The bits of a form's selection, all set: two digits of the number for each form.
-fn selected(form: u32) -> u32
-    requires { form < 5 }
-    ensures { result ≡ 2 ^ get_or (0 ∷ 0 ∷ 4 ∷ 8 ∷ 2 ∷ []) form 0 - 1 }
-{
-    ((0x03_FF0F_0000u64 >> (form * 8)) % 256) as u32
-}
+// The bits of each form's selection, all set.
+static SELECTED: [u32; 5] = [0, 0, 0x0F, 0xFF, 0x03];
 
 pub fn selection(t: u32) -> u32
     ensures { result ≡ op.selection t }
 {
-    (t >> 4) & selected(form(t))
+    (t >> 4) & SELECTED[form(t) as usize]
 }
 
 // How many immediate dwords an operand of an immediate type has.
@@ -194,46 +192,48 @@ pub fn exact_dword(t: u32) -> bool
     ensures { result ≡ op.exact_dword t }
 {
     let low = t % 4096;
-    (low & allowed(low % 16) == low) & (t / 0x40_0000 % 512 == reprs(t))
+    low & allowed(low % 16) == low && t / 0x40_0000 % 512 == reprs(t)
 }
 
-// The bits that an exact dword without extensions and representations has not, by its lowest four: one number for each of them, so that it
-// is looked up in a table.
-fn stray(lowest: u32) -> u32
-    ensures { result ≡ stray_bits lowest }
+// The bits that an exact dword without extensions and representations has not, by its lowest four.
+static STRAYS: [u32; 16] = [
+    0xFFC0_0FFF,
+    0xFFC0_0FFE,
+    0xFFC0_0F0D,
+    0xFFC0_0FFF,
+    0xFFC0_0FFF,
+    0xFFC0_0FFF,
+    0xFFC0_0009,
+    0xFFC0_0FFF,
+    0xFFC0_0FFF,
+    0xFFC0_0FFF,
+    0xFFC0_0FC5,
+    0xFFC0_0FFF,
+    0xFFC0_0FFF,
+    0xFFC0_0FFF,
+    0xFFC0_0FFF,
+    0xFFC0_0FFF,
+];
+
+// Those of a dword.
+fn stray(t: u32) -> u32
+    ensures { result ≡ stray_bits (t % 16) }
 {
-    match lowest {
-        0 => 0xFFC0_0FFF,
-        1 => 0xFFC0_0FFE,
-        2 => 0xFFC0_0F0D,
-        3 => 0xFFC0_0FFF,
-        4 => 0xFFC0_0FFF,
-        5 => 0xFFC0_0FFF,
-        6 => 0xFFC0_0009,
-        7 => 0xFFC0_0FFF,
-        8 => 0xFFC0_0FFF,
-        9 => 0xFFC0_0FFF,
-        10 => 0xFFC0_0FC5,
-        11 => 0xFFC0_0FFF,
-        12 => 0xFFC0_0FFF,
-        13 => 0xFFC0_0FFF,
-        14 => 0xFFC0_0FFF,
-        _ => 0xFFC0_0FFF,
-    }
+    STRAYS[(t % 16) as usize]
 }
 
 // An operand's dword is exact, and has neither extensions nor representations.
 pub fn usual(t: u32) -> bool
     ensures { result ≡ (ltb t 0x400000 && op.exact_dword t) }
 {
-    t & stray(t % 16) == 0
+    t & stray(t) == 0
 }
 
 // An operand's dword is exact, has neither extensions nor representations, and one index.
 pub fn short(t: u32) -> bool
     ensures { result ≡ (eqb (t / 0x100000) 1 && op.exact_dword t) }
 {
-    t & (stray(t % 16) + 0x30_0000) == 0x10_0000
+    t & (stray(t) + 0x30_0000) == 0x10_0000
 }
 
 // How many dwords an operand has whose dword is exact and without extensions and representations; None: it is another, or malformed.
