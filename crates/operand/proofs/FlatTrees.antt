@@ -1,7 +1,7 @@
 -- Laws of an operand whose indices are one dword each.
 use Prim.Native.Nat.{ℕ, zero, suc, ◌+◌, ◌-◌, ◌*◌, ◌<◌, ◌≤◌}
 use mathlib.Core.Path.{◌≡◌, refl, sym, ◌∙◌, ap}
-use mathlib.Core.Bool.{Bool, cond, ◌&&◌}
+use mathlib.Core.Bool.{Bool, cond, ◌&&◌, and-true}
 use mathlib.Core.List.{List, [], ◌∷◌}
 use native.Mathlib.Omega.{arith}
 use lib.ListN.{length, take, drop, length-append, length-drop}
@@ -16,7 +16,6 @@ use Rattle.tokens.proofs.Places.{some_length}
 use Rattle.std.specs.Prelude.{None}
 use Rattle.operand.specs.Standing.{Stands}
 use Rattle.operand.specs.Measures.{read, measured, Flat, AnyDepth}
-use Rattle.operand.proofs.Fronts.{and_trues}
 
 -- the tree of a dword t with the extensions e and so many indices of one dword
 abbrev pub flat_tree : ℕ → List ℕ → List ℕ → Tree
@@ -40,7 +39,7 @@ flat_dwords t e (x ∷ y ∷ z ∷ u ∷ ws) h = impossible (omega arith)
 
 flat_exact : (t : ℕ) (e ws : List ℕ) → (exact_dword t && exact_extension e) ≡ exact (flat_tree t e ws)
 unfolding exact
-flat_exact t e ws = and_trues (exact_dword t) (exact_extension e)
+flat_exact t e ws = simp and-true
 
 -- past the dimension the representation of an index is 8
 pub past_dim : (i t : ℕ) → dimension t ≤ i → repr i t ≡ 8

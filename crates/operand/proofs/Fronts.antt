@@ -1,7 +1,7 @@
 -- Laws of an operand's front, and of an operand of immediates.
 use Prim.Native.Nat.{ℕ, zero, suc, ◌+◌, ◌-◌, ◌/◌, ◌%◌, ◌^◌, ◌<◌, ◌≤◌}
 use mathlib.Core.Path.{◌≡◌, refl, sym, ◌∙◌, ap}
-use mathlib.Core.Bool.{Bool, true, false, cond, ◌&&◌}
+use mathlib.Core.Bool.{Bool, true, false, cond, ◌&&◌, and-true}
 use mathlib.Core.List.{List, [], ◌∷◌, ◌++◌, append-nil}
 use native.Mathlib.Nat.{add-zero}
 use native.Mathlib.Numerals.{add-one, sub-one}
@@ -35,16 +35,6 @@ no_chain ds at h = passed false ds at at h (go (drop at ds))
     go : (l : List ℕ) → Some at ≡ ends at (chain false l)
     go [] = ap Some (sym (add-zero at))
     go (x ∷ l) = ap Some (sym (add-zero at))
-
-pub and-true : (a : Bool) → (a && true) ≡ a
-and-true true = refl
-and-true false = refl
-
--- the three indices of an operand that has no operand in them are exact
-pub and_trues : (p q : Bool) → (p && q) ≡ (p && q && true && true && true)
-and_trues true true = refl
-and_trues true false = refl
-and_trues false q = refl
 
 -- the two readers, a step in
 module _ (left : ℕ) (ds : List ℕ) (at : ℕ) where
@@ -172,7 +162,7 @@ module _ {ds : List ℕ} {at t b : ℕ} {x : Bool} (s : Stands ds at t b x) (d :
         let li : length i ≡ m = some_length m ds b (omega (arith, s.within)) in
         let w : m ≡ length (i ++ [] ++ [] ++ []) = sym (simp append-nil li) in
         let n : b - at + m ≡ length (t ∷ e ++ i ++ [] ++ [] ++ []) = simp length-append (omega (arith, s.from)) in
-        let g : (exact_dword t && exact_extension e) ≡ (exact_dword t && exact_extension e && true && true && true) = and_trues (exact_dword t) (exact_extension e) in
+        let g : (exact_dword t && exact_extension e) ≡ (exact_dword t && exact_extension e && true && true && true) = simp and-true in
         (λ j. read 1 (w j) (n j) ((s.good ∙ g) j)) ∙ sym (rw (← ed, eq-eqb d 0 hd, ← em, some_whole m ds b (omega (arith, s.within))))
 
 -- an operand with the dword t is measured by what stands behind its front

@@ -1,7 +1,7 @@
 -- Laws of an operand's indices.
 use Prim.Native.Nat.{ℕ, zero, suc, ◌+◌, ◌-◌, ◌<◌, ◌≤◌}
 use mathlib.Core.Path.{◌≡◌, refl, sym, ◌∙◌, ap}
-use mathlib.Core.Bool.{Bool, true, false, not, ◌&&◌}
+use mathlib.Core.Bool.{Bool, true, false, not, ◌&&◌, and-true, and_assoc}
 use mathlib.Core.List.{List, [], ◌∷◌, ◌++◌, append-nil, append_assoc}
 use native.Mathlib.Omega.{arith}
 use lib.ListN.{length, take, drop, length-append}
@@ -17,7 +17,6 @@ use Rattle.std.specs.Prelude.{Option, Some, None}
 use Rattle.operand.specs.Standing.{Stands}
 use Rattle.operand.specs.Measures.{read, measured}
 use Rattle.operand.specs.declared.Measured.{Measured}
-use Rattle.operand.proofs.Fronts.{and-true}
 use Rattle.operand.proofs.Seen.{Seen, seen, lost}
 
 pub makes_index : (k r : ℕ) (ds : List ℕ) → Makes dwords ds (read_index (operand k) r ds)
@@ -75,17 +74,6 @@ abbrev pub added : ℕ → ℕ → ℕ → Bool → Got (List Tree) → Option M
 added r w d x malformed = None
 added r w d x (got l s) = read (r + parts_rows l) (w + length (parts_words l)) (d + length (parts_dwords l)) (x && exact_parts l)
 
-and_assoc : (a b c : Bool) → ((a && b) && c) ≡ (a && (b && c))
-and_assoc true b c = refl
-and_assoc false b c = refl
-
-ands : (p a b c : Bool) → (p && a && b && c) ≡ (p && (a && (b && (c && true))))
-ands true true true true = refl
-ands true true true false = refl
-ands true true false c = refl
-ands true false b c = refl
-ands false a b c = refl
-
 -- one more
 more : (r w d : ℕ) (x : Bool) (t : Tree) (g : Got (List Tree)) → added r w d x (then g (λ l. give (t ∷ l))) ≡ added (r + tree_rows t) (w + length (tree_words t)) (d + length (dwords t)) (x && exact t) g
 unfolding parts_rows parts_words parts_dwords exact_parts
@@ -106,7 +94,7 @@ three p t e ds = first (read_index p (repr 0 t) ds) refl
         let er : 1 + tree_rows a + tree_rows b + tree_rows c ≡ 1 + (tree_rows a + (tree_rows b + (tree_rows c + 0))) = omega arith in
         let ew : length ([] ++ tree_words a ++ tree_words b ++ tree_words c) ≡ 0 + length (tree_words a ++ (tree_words b ++ (tree_words c ++ []))) = simp length-append (omega arith) in
         let ed : length (t ∷ e ++ [] ++ dwords a ++ dwords b ++ dwords c) ≡ 1 + length e + length (dwords a ++ (dwords b ++ (dwords c ++ []))) = simp length-append (omega arith) in
-        let ex : (exact_dword t && exact_extension e && exact a && exact b && exact c) ≡ ((exact_dword t && exact_extension e) && (exact a && (exact b && (exact c && true)))) = ands (exact_dword t && exact_extension e) (exact a) (exact b) (exact c) in
+        let ex : (exact_dword t && exact_extension e && exact a && exact b && exact c) ≡ ((exact_dword t && exact_extension e) && (exact a && (exact b && (exact c && true)))) = simp (and_assoc, and-true) in
         λ i. read (er i) (ew i) (ed i) (ex i)
 
     third : (a b : Tree) (r s : List ℕ) → read_index p (repr 0 t) ds ≡ got a r → read_index p (repr 1 t) r ≡ got b s → (g : Got Tree) → read_index p (repr 2 t) s ≡ g → measured (read_indices p t e ds) ≡ added 1 0 (1 + length e) (exact_dword t && exact_extension e) (rest p t 3 ds)
