@@ -3,7 +3,6 @@ use Prim.Native.Nat.{ℕ, zero, suc, ◌+◌, ◌-◌, ◌/◌, ◌%◌, ◌^◌
 use mathlib.Core.Path.{◌≡◌, refl, sym, ◌∙◌, ap}
 use mathlib.Core.Bool.{Bool, true, false, cond, ◌&&◌, and-true}
 use mathlib.Core.List.{List, [], ◌∷◌, ◌++◌, append-nil}
-use native.Mathlib.Nat.{add-zero}
 use native.Mathlib.Numerals.{add-one, sub-one}
 use native.Mathlib.Omega.{arith}
 use lib.ListN.{length, get_or, take, drop, length-append}
@@ -15,6 +14,7 @@ use Rattle.format.specs.Operands.{Tree, immediate, immediates, dimension, read_i
 use Rattle.format.specs.Rows.{tree_rows, tree_words}
 use Rattle.format.proofs.Dwords.{impossible}
 use Rattle.tokens.specs.Chains.{ends}
+use Rattle.tokens.proofs.Chains.{not_begun}
 use Rattle.tokens.proofs.Places.{dword_at_lem, dword_end, some_whole, some_length, some_short, Passed, passed, ran_off}
 use Rattle.std.specs.Prelude.{Option, Some, None}
 use Rattle.std.proofs.lemmas.Option.{none-some}
@@ -29,12 +29,7 @@ body left t e = cond (immediate t) (read_immediates t e) (read_indices (operand 
 
 -- where no chain follows, none is passed
 pub no_chain : (ds : List ℕ) (at : ℕ) → at ≤ length ds → Passed false ds at at
-unfolding chain
-no_chain ds at h = passed false ds at at h (go (drop at ds))
-  where
-    go : (l : List ℕ) → Some at ≡ ends at (chain false l)
-    go [] = ap Some (sym (add-zero at))
-    go (x ∷ l) = ap Some (sym (add-zero at))
+no_chain ds at h = passed false ds at at h (not_begun ds at refl)
 
 -- the two readers, a step in
 module _ (left : ℕ) (ds : List ℕ) (at : ℕ) where

@@ -1,12 +1,12 @@
 -- Laws of an operand's indices.
 use Prim.Native.Nat.{ℕ, zero, suc, ◌+◌, ◌-◌, ◌<◌, ◌≤◌}
 use mathlib.Core.Path.{◌≡◌, refl, sym, ◌∙◌, ap}
-use mathlib.Core.Bool.{Bool, true, false, not, ◌&&◌, and-true, and_assoc}
+use mathlib.Core.Bool.{Bool, true, false, ◌&&◌, and-true, and_assoc}
 use mathlib.Core.List.{List, [], ◌∷◌, ◌++◌, append-nil, append_assoc}
 use native.Mathlib.Omega.{arith}
 use lib.ListN.{length, take, drop, length-append}
 use lib.Seq.{slice, length-slice}
-use borrow.Author.Tests.{le-ltb, not-true, not-false}
+use borrow.Author.Tests.{le-ltb}
 use Rattle.format.specs.Dwords.{Got, malformed, got, Reader, then, ◌>>=◌, give, some}
 use Rattle.format.specs.Operands.{Tree, none, plain, node, dimension, repr, own, nests, known, read_index, read_indices, operand, dwords, exact, exact_dword, exact_extension, parts_dwords, exact_parts}
 use Rattle.format.specs.Rows.{tree_rows, tree_words, parts_rows, parts_words}
@@ -38,14 +38,14 @@ behind_plain o malformed = refl
 behind_plain o (got c r) = λ i. read (tree_rows c) (length-append o (tree_words c) i) (length-append o (dwords c) i) (exact c)
 
 module _ (p : Reader Tree) (ds : List ℕ) (r at : ℕ) (b : Bool) (eb : b ≡ known r) where
-  pub unknown : not b ≡ true → None ≡ measured (read_index p r (drop at ds))
+  pub unknown : b ≡ false → None ≡ measured (read_index p r (drop at ds))
   unfolding read_index
-  unknown h = rw (sym eb ∙ not-true b h)
+  unknown h = rw (sym eb ∙ h)
 
-  module _ (hb : not b ≡ false) (o : ℕ) (eo : o ≡ own r) (n : ℕ) (en : n ≡ length ds) (h : at ≤ n) where
+  module _ (hb : b ≡ true) (o : ℕ) (eo : o ≡ own r) (n : ℕ) (en : n ≡ length ds) (h : at ≤ n) where
     pub short : n - at < o → None ≡ measured (read_index p r (drop at ds))
     unfolding read_index
-    short l = rw (sym eb ∙ not-false b hb, ← eo, places.some_short o ds at (omega arith) (omega arith))
+    short l = rw (sym eb ∙ hb, ← eo, places.some_short o ds at (omega arith) (omega arith))
 
     module _ (l : o ≤ n - at) (m : Bool) (em : m ≡ nests r) where
       pub inner : m ≡ true → behind o (measured (p (drop (at + o) ds))) ≡ measured (read_index p r (drop at ds))
@@ -53,13 +53,13 @@ module _ (p : Reader Tree) (ds : List ℕ) (r at : ℕ) (b : Bool) (eb : b ≡ k
       inner e =
           ap (λ (k : ℕ). behind k (measured (p (drop (at + o) ds)))) (sym (places.some_length o ds at (omega arith)))
           ∙ sym (behind_plain (take o (drop at ds)) (p (drop (at + o) ds)))
-          ∙ sym (rw (sym eb ∙ not-false b hb, ← eo, places.some_whole o ds at (omega arith), sym em ∙ e))
+          ∙ sym (rw (sym eb ∙ hb, ← eo, places.some_whole o ds at (omega arith), sym em ∙ e))
 
       pub outer : m ≡ false → read 0 o o true ≡ measured (read_index p r (drop at ds))
       unfolding read_index tree_rows tree_words dwords exact
       outer e =
           let q : o ≡ length (take o (drop at ds) ++ []) = sym (simp append-nil (places.some_length o ds at (omega arith))) in
-          (λ i. read 0 (q i) (q i) true) ∙ sym (rw (sym eb ∙ not-false b hb, ← eo, places.some_whole o ds at (omega arith), sym em ∙ e))
+          (λ i. read 0 (q i) (q i) true) ∙ sym (rw (sym eb ∙ hb, ← eo, places.some_whole o ds at (omega arith), sym em ∙ e))
 
 -- the last j of an operand's three indices
 unfoldable pub rest : Reader Tree → ℕ → ℕ → Reader (List Tree)

@@ -8,7 +8,6 @@ use Rattle.operand.proofs.Fronts.{shut, leaf_is, tree_is, front_opened, front_is
 use Rattle.operand.proofs.Seen.{operand_seen}
 use Rattle.operand.proofs.Indices.{behind, unknown, short, inner, outer, goes, next_lost, index_seen, goes_on, ended}
 use Prim.Native.Nat.{◌+◌, ◌-◌}
-use Rattle.std.proofs.Common.{not}
 use Rattle.operand.proofs.+deep_index_tree.Goals as goal
 
 pub deep-returns-in_err-front : goal.deep-returns-in_err-front
@@ -27,16 +26,16 @@ pub deep-returns : goal.deep-returns
 deep-returns t c = let f = c.in_ok-front in front_is c.args.left f.front f.ensures.told f.ensures.placed (tree_is (front_opened c.args.left f.front f.ensures.told f.ensures.placed) _ c.immediate.ensures c.if-immediate.false c.tree.ensures)
 
 pub index-returns-then-not-known : goal.index-returns-then-not-known
-index-returns-then-not-known t c = let a = c.args in unknown (operand (a.left - 1)) (dwords_of a.part.now) a.r a.at _ c.known.ensures (ap not c.if-not-known.true)
+index-returns-then-not-known t c = let a = c.args in unknown (operand (a.left - 1)) (dwords_of a.part.now) a.r a.at _ c.known.ensures c.if-not-known.true
 
 pub index-returns-then-dwords-at : goal.index-returns-then-dwords-at
-index-returns-then-dwords-at t c = let a = c.args in short (operand (a.left - 1)) (dwords_of a.part.now) a.r a.at _ c.known.ensures (ap not c.if-not-known.false) _ c.own-own.ensures _ c.dwords.ensures (omega (arith, c.requires, c.dwords.ensures)) c.if-dwords-at.true
+index-returns-then-dwords-at t c = let a = c.args in short (operand (a.left - 1)) (dwords_of a.part.now) a.r a.at _ c.known.ensures c.if-not-known.false _ c.own-own.ensures _ c.dwords.ensures (omega (arith, c.requires, c.dwords.ensures)) c.if-dwords-at.true
 
 pub index-returns-then-not-nests : goal.index-returns-then-not-nests
-index-returns-then-not-nests t c = let a = c.args in outer (operand (a.left - 1)) (dwords_of a.part.now) a.r a.at _ c.known.ensures (ap not c.if-not-known.false) _ c.own-own.ensures _ c.dwords.ensures (omega (arith, c.requires, c.dwords.ensures)) c.if-dwords-at.false _ c.nests.ensures c.if-not-nests.true
+index-returns-then-not-nests t c = let a = c.args in outer (operand (a.left - 1)) (dwords_of a.part.now) a.r a.at _ c.known.ensures c.if-not-known.false _ c.own-own.ensures _ c.dwords.ensures (omega (arith, c.requires, c.dwords.ensures)) c.if-dwords-at.false _ c.nests.ensures c.if-not-nests.true
 
 pub index-returns-in_err-inner : goal.index-returns-in_err-inner
-index-returns-in_err-inner t c = let a = c.args in c.from_residual.ensures ∙ ap (behind c.own-own.result) c.in_err-inner.ensures ∙ inner (operand (a.left - 1)) (dwords_of a.part.now) a.r a.at _ c.known.ensures (ap not c.if-not-known.false) _ c.own-own.ensures _ c.dwords.ensures (omega (arith, c.requires, c.dwords.ensures)) c.if-dwords-at.false _ c.nests.ensures c.if-not-nests.false
+index-returns-in_err-inner t c = let a = c.args in c.from_residual.ensures ∙ ap (behind c.own-own.result) c.in_err-inner.ensures ∙ inner (operand (a.left - 1)) (dwords_of a.part.now) a.r a.at _ c.known.ensures c.if-not-known.false _ c.own-own.ensures _ c.dwords.ensures (omega (arith, c.requires, c.dwords.ensures)) c.if-dwords-at.false _ c.nests.ensures c.if-not-nests.false
 
 pub index-overflow_add-result : goal.index-overflow_add-result
 index-overflow_add-result t c = omega (arith, operand_seen (c.args.left - 1) (dwords_of c.args.part.now) (c.args.at + c.own-own.result) (omega (arith, c.requires, c.dwords.ensures, c.if-dwords-at.false)) _ c.in_ok-inner.ensures)
@@ -45,7 +44,7 @@ pub index-overflow_add-result-2 : goal.index-overflow_add-result-2
 index-overflow_add-result-2 t c = omega (arith, operand_seen (c.args.left - 1) (dwords_of c.args.part.now) (c.args.at + c.own-own.result) (omega (arith, c.requires, c.dwords.ensures, c.if-dwords-at.false)) _ c.in_ok-inner.ensures)
 
 pub index-returns : goal.index-returns
-index-returns t c = let a = c.args in ap (behind c.own-own.result) c.in_ok-inner.ensures ∙ inner (operand (a.left - 1)) (dwords_of a.part.now) a.r a.at _ c.known.ensures (ap not c.if-not-known.false) _ c.own-own.ensures _ c.dwords.ensures (omega (arith, c.requires, c.dwords.ensures)) c.if-dwords-at.false _ c.nests.ensures c.if-not-nests.false
+index-returns t c = let a = c.args in ap (behind c.own-own.result) c.in_ok-inner.ensures ∙ inner (operand (a.left - 1)) (dwords_of a.part.now) a.r a.at _ c.known.ensures c.if-not-known.false _ c.own-own.ensures _ c.dwords.ensures (omega (arith, c.requires, c.dwords.ensures)) c.if-dwords-at.false _ c.nests.ensures c.if-not-nests.false
 
 pub front::Front::tree-loop-i-init : goal.front::Front::tree-loop-i-init
 front::Front::tree-loop-i-init t c = goes c.args.left c.args.self.now.stands _ c.dimension-i-end.ensures
