@@ -1,7 +1,7 @@
 -- What stands before the operands of an instruction whose code has a count: a plain token, or one with a chain behind it.
 use Prim.Native.Nat.{ℕ, ◌+◌, ◌-◌, ◌*◌, ◌/◌, ◌%◌, ◌^◌, ◌<◌, ◌≤◌}
 use mathlib.Core.Path.{◌≡◌, refl, sym, ap, ◌∙◌, subst}
-use mathlib.Core.List.{List, [], ◌∷◌}
+use mathlib.Core.List.{List, []}
 use mathlib.Core.Bool.{Bool, true, false, ◌||◌}
 use mathlib.Core.Option.{some}
 use native.Mathlib.Nat.{mod-one, mul-one}
@@ -17,11 +17,13 @@ use Rattle.format.specs.Declarations.{Layout, layout, field_in}
 use Rattle.format.specs.Instructions.{fields_of}
 use Rattle.format.proofs.Dwords.{both}
 use Rattle.layouts.specs.Table.{plain_shape, width_of}
+use Rattle.layouts.specs.declared.Kind.TheVariants.{Counted}
 use Rattle.layouts.proofs.Others.{counts}
 use Rattle.layouts.proofs.Fields.{unbounded, value}
 use Rattle.tokens.specs.Chains.{ends}
-use Rattle.tokens.specs.declared.Skip.{Skip}
-use Rattle.tokens.specs.declared.Skip.TheVariants.{To}
+use Rattle.std.specs.Prelude.{Option, Some, IfSome}
+use Rattle.std.specs.Bool.{then_some}
+use Rattle.tokens.proofs.Chains.{not_begun}
 use Rattle.tokens.proofs.Places.{Passed, passed}
 use Rattle.instruction_fields.specs.Fields.{headed, plain_token}
 use Rattle.instruction_fields.proofs.Heads.{class_decides, another_kind, chained_head}
@@ -30,19 +32,11 @@ use Rattle.instruction.specs.Measure.{Begun}
 
 -- ---- a plain token stands alone
 module _ (t : ℕ) (ds : List ℕ) where
-  no_chain : (l : List ℕ) → To 1 ≡ ends 1 (chain false l)
-  unfolding chain
-  no_chain [] = refl
-  no_chain (x ∷ l) = refl
-
   pub plain_begins : plain_token t ≡ true → t < 2 ^ 32 → Begun t ds 1
-  plain_begins plain small l n h = record {
-    ends = no_chain (drop 1 ds) ∙ ap (λ (b : Bool). ends 1 (chain b (drop 1 ds))) (sym (unfollowed t n h plain small)) ∙ ap (ends 1) (sym (chain_head t n h (drop 1 ds)));
+  plain_begins plain small n h = record {
+    ends = not_begun ds 1 refl ∙ ap (λ (b : Bool). ends 1 (chain b (drop 1 ds))) (sym (unfollowed t n h plain small)) ∙ ap (ends 1) (sym (chain_head t n h (drop 1 ds)));
     exact = plain_headed t n h plain small ds 1 (length ds - 1) (λ z. refl);
   }
-
-  pub another : Begun t ds 0
-  another l = absurd (omega arith)
 
 -- ---- a token t that is plain but for bit 31: u is the same without it
 module _ (t u n : ℕ) (h : operand_count (code t) ≡ some n) (up : t ≡ u + 2 ^ 31) (small : u < 2 ^ 31) (plain : plain_token u ≡ true) where
@@ -57,7 +51,7 @@ module _ (t u n : ℕ) (h : operand_count (code t) ≡ some n) (up : t ≡ u + 2
 
   -- the same fields, but for bit 31
   field_bits : (w : ℕ) → width_of (code t) ≡ w → (v : ℕ) → field_in x.field v ≡ v / 2 ^ 11 % 2 ^ w
-  field_bits w e v = sym (value (plain_shape 1 (width_of (code t)) n true) v (counts (code t) n h).sound) ∙ mul-one _ ∙ ap (λ (k : ℕ). v / 2 ^ 11 % 2 ^ k) e
+  field_bits w e v = sym (value (plain_shape Counted (width_of (code t)) n true) v (counts (code t) n h).sound) ∙ mul-one _ ∙ ap (λ (k : ℕ). v / 2 ^ 11 % 2 ^ k) e
 
   same_field : field_in x.field t ≡ field_in x.field u
   same_field = go (eqb (code t) 61 || eqb (code t) 111) refl (eqb (code t) 190) refl
@@ -110,18 +104,26 @@ module _ (t u n : ℕ) (h : operand_count (code t) ≡ some n) (up : t ≡ u + 2
   followed = sym (eq-eqb (bits 31 31 t) 1 (omega arith))
 
   risen_headed : (e : List ℕ) (k : ℕ) → true ≡ rising 0 e → true ≡ headed (layout (code t)) t e k
-  risen_headed e k r = rw (laid (code t) n h) (class_decides x t e k true (sym (eq-eqb _ _ upper)) refl true (chained_head 1 e (omega arith) r) refl true (unbounded (plain_shape 1 (width_of (code t)) n true) t (counts (code t) n h).sound refl) refl true (another_kind 1 t k (λ z. omega arith)))
+  risen_headed e k r = rw (laid (code t) n h) (class_decides x t e k true (sym (eq-eqb _ _ upper)) refl true (chained_head 1 e (omega arith) r) refl true (unbounded (plain_shape Counted (width_of (code t)) n true) t (counts (code t) n h).sound refl) refl true (another_kind 1 t k (λ z. omega arith)))
 
 -- ---- the code's way through the chain
-module _ (t : ℕ) (ds : List ℕ) (there : 0 < length ds) {a : Skip} (ea : a ≡ ends 1 (chain true (drop 1 ds))) {end : ℕ} (e : a ≡ To end) where
+module _ (t : ℕ) (ds : List ℕ) (there : 0 < length ds) {end : ℕ} (e : Some end ≡ ends 1 (chain true (drop 1 ds))) where
   pub chain_passed : Passed true ds 1 end
-  chain_passed = passed true ds 1 end there (sym e ∙ ea)
+  chain_passed = passed true ds 1 end there e
 
   pub chain_begins : (u : ℕ) → u ≡ t - 2 ^ 31 → 2 ^ 31 ≤ t → t < 2 ^ 32 → plain_token u ≡ true → true ≡ rising 0 (slice 1 end ds) → Begun t ds end
-  chain_begins u eu high small plain r l n h = record {
-    ends = sym e ∙ ea ∙ ap (λ (b : Bool). ends 1 (chain b (drop 1 ds))) (followed t u n h (omega arith) (omega arith) plain) ∙ ap (ends 1) (sym (chain_head t n h (drop 1 ds)));
+  chain_begins u eu high small plain r n h = record {
+    ends = e ∙ ap (λ (b : Bool). ends 1 (chain b (drop 1 ds))) (followed t u n h (omega arith) (omega arith) plain) ∙ ap (ends 1) (sym (chain_head t n h (drop 1 ds)));
     exact = risen_headed t u n h (omega arith) (omega arith) plain (slice 1 end ds) (length ds - end) r;
   }
+
+-- a place that is answered only after a test
+pub if_risen : {b : Bool} {k : ℕ} {r : Option ℕ} (P : ℕ → Type 0) → r ≡ then_some b k → (b ≡ true → P k) → IfSome r P
+if_risen {b} {k} {r} P e f = rw e (go b f)
+  where
+    go : (c : Bool) → (c ≡ true → P k) → IfSome (then_some c k) P
+    go true f = f refl
+    go false f = tt
 
 -- ---- a part that is lent whole
 module _ (part : List ℕ) where

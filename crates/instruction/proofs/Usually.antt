@@ -1,7 +1,7 @@
 -- Operands behind a token, most of them usual: passed by the number of their dwords, and looked at for the end only then.
 use Prim.Native.Nat.{ℕ, zero, suc, ◌+◌, ◌-◌, ◌/◌, ◌%◌, ◌^◌, ◌<◌, ◌≤◌}
 use mathlib.Core.Path.{◌≡◌, refl, sym, ap, ◌∙◌}
-use mathlib.Core.Bool.{Bool, true, false, cond, not, ◌&&◌}
+use mathlib.Core.Bool.{Bool, true, false, cond, not, ◌&&◌, and-true}
 use mathlib.Core.List.{List, [], ◌∷◌}
 use native.Mathlib.Omega.{arith}
 use lib.Dec.{eqb, ltb}
@@ -15,42 +15,36 @@ use Rattle.format.specs.Rows.{tree_rows}
 use Rattle.format.proofs.Dwords.{impossible, both, All, unmet, met, all_then, all_if}
 use Rattle.tokens.specs.Usuals.{usual_length}
 use Rattle.tokens.specs.Chains.{ends}
-use Rattle.tokens.specs.declared.Skip.TheVariants.{To}
 use Rattle.tokens.proofs.Usuals.{immediates_few}
-use Rattle.tokens.proofs.Chains.{Going, goes_on, ended, one_extension}
+use Rattle.tokens.proofs.Chains.{begun, ended, one_extension}
 use Rattle.tokens.proofs.Places.{passed as chain_passed}
-use Rattle.operand.specs.Measures.{measured, Flat}
+use Rattle.std.specs.Prelude.{Option, Some, None}
+use Rattle.operand.specs.Measures.{read, measured, Flat}
 use Rattle.operand.specs.declared.Measured.{Measured}
-use Rattle.operand.specs.declared.Measured.TheVariants.{Read as MeasuredRead, Malformed}
+use Rattle.operand.proofs.Seen.{Seen, operand_seen, lost}
 use Rattle.operand.proofs.Fronts.{Opened, opened, front_read, low_opened, low_flat, leaf_short, leaf_read, leaf_is, tree_is, operand_end}
 use Rattle.operand.proofs.FlatTrees.{measured_short, measured_flat}
-use Rattle.instruction.specs.declared.Operands.TheVariants.{Read, Lost}
 use Rattle.instruction.specs.declared.Surplus.{Surplus}
-use Rattle.instruction.specs.declared.Surplus.TheVariants.{Read as SurplusRead, Lost as SurplusLost}
-use Rattle.instruction.specs.Measure.{Run, surplus}
-use Rattle.instruction.proofs.Runs.{Reading, begin, Told, told, untold, turn, taken, finished, stopped}
-
-and-true : (a : Bool) → (a && true) ≡ a
-and-true true = refl
-and-true false = refl
+use Rattle.instruction.specs.Measure.{Ran, Run, surplus}
+use Rattle.instruction.proofs.Runs.{Reading, begin, turn, finished, stopped}
 
 -- ---- an operand at a place that is as long as its dword says, if it fits
 pub record Long (ds : List ℕ) (at k : ℕ) : Type 0 where
   pub some : 0 < k
   pub few : k ≤ 5
-  pub fits : at + k ≤ length ds → Told (operand 64 (drop at ds)) 1 (k - 1) k true
+  pub fits : at + k ≤ length ds → Seen (operand 64 (drop at ds)) ds at 1 (k - 1) k true
   pub off : length ds < at + k → operand 64 (drop at ds) ≡ malformed
 
 module _ (ds : List ℕ) (at : ℕ) (l : at < length ds) (t : ℕ) (et : t ≡ get_or ds at 0) where
-  as_long : (w k : ℕ) → k ≡ 1 + w → w ≤ 4 → (w ≤ length ds - (at + 1) → MeasuredRead 1 w (at + 1 - at + w) true ≡ measured (operand 64 (drop at ds))) → (length ds - (at + 1) < w → Malformed ≡ measured (operand 64 (drop at ds))) → Long ds at k
+  as_long : (w k : ℕ) → k ≡ 1 + w → w ≤ 4 → (w ≤ length ds - (at + 1) → read 1 w (at + 1 - at + w) true ≡ measured (operand 64 (drop at ds))) → (length ds - (at + 1) < w → None ≡ measured (operand 64 (drop at ds))) → Long ds at k
   as_long w k e h f g = record {
     some = omega arith;
     few = omega arith;
     fits = λ n.
         let a : k - 1 ≡ w = omega arith in
         let b : at + 1 - at + w ≡ k = omega arith in
-        rw a (told (operand 64 (drop at ds)) (f (omega arith)) (ap (λ d. MeasuredRead 1 w d true) b));
-    off = λ n. untold (operand 64 (drop at ds)) (g (omega arith)) refl;
+        rw a (operand_seen 64 ds at (omega arith) (record { rows = 1; words = w; dwords = k; exact = true }) (ap (λ (d : ℕ). read 1 w d true) (sym b) ∙ f (omega arith)));
+    off = λ n. lost (operand 64 (drop at ds)) (g (omega arith));
   }
 
   module _ (q : t < 2 ^ 22) (x : op.exact_dword t ≡ true) where
@@ -71,12 +65,12 @@ module _ (ds : List ℕ) (at : ℕ) (l : at < length ds) (t : ℕ) (et : t ≡ g
         (λ n. tree_is here false (sym i) refl (measured_short here.stands (low_flat t q) (op.dimension t) refl (length ds) refl n (operand 63)))
 
   -- a length that was told
-  pub long : (k : ℕ) → k ≡ usual_length t → 0 < k → Long ds at k
+  pub long : (k : ℕ) → Some k ≡ usual_length t → Long ds at k
   unfolding usual_length
-  long k e h = go (ltb t 0x400000 && op.exact_dword t) refl e
+  long k e = go (ltb t 0x400000 && op.exact_dword t) refl e
     where
-      go : (b : Bool) → (ltb t 0x400000 && op.exact_dword t) ≡ b → k ≡ cond b (cond (op.immediate t) (cond (ltb t 0x100000) (1 + op.immediates t) 0) (1 + t / 0x100000)) 0 → Long ds at k
-      go false p e = absurd (omega arith)
+      go : (b : Bool) → (ltb t 0x400000 && op.exact_dword t) ≡ b → Some k ≡ cond b (cond (op.immediate t) (cond (ltb t 0x100000) (Some (1 + op.immediates t)) None) (Some (1 + t / 0x100000))) None → Long ds at k
+      go false p e = impossible (cc)
       go true p e = within (op.immediate t) refl e
         where
           q : t < 2 ^ 22
@@ -85,13 +79,13 @@ module _ (ds : List ℕ) (at : ℕ) (l : at < length ds) (t : ℕ) (et : t ≡ g
           x : op.exact_dword t ≡ true
           x = (both (ltb t 0x400000) (op.exact_dword t) p).1
 
-          within : (i : Bool) → op.immediate t ≡ i → k ≡ cond i (cond (ltb t 0x100000) (1 + op.immediates t) 0) (1 + t / 0x100000) → Long ds at k
-          within false i e = indices_long q x i k e
+          within : (i : Bool) → op.immediate t ≡ i → Some k ≡ cond i (cond (ltb t 0x100000) (Some (1 + op.immediates t)) None) (Some (1 + t / 0x100000)) → Long ds at k
+          within false i e = indices_long q x i k ((cc))
           within true i e = small (ltb t 0x100000) refl e
             where
-              small : (b : Bool) → ltb t 0x100000 ≡ b → k ≡ cond b (1 + op.immediates t) 0 → Long ds at k
-              small false s e = absurd (omega arith)
-              small true s e = immediates_long q x i (ltb-true t 0x100000 s) k e
+              small : (b : Bool) → ltb t 0x100000 ≡ b → Some k ≡ cond b (Some (1 + op.immediates t)) None → Long ds at k
+              small false s e = impossible (cc)
+              small true s e = immediates_long q x i (ltb-true t 0x100000 s) k ((cc))
 
 -- ---- an operand with one extension
 module _ (ds : List ℕ) (at : ℕ) (l : at + 1 < length ds) (t : ℕ) (et : t ≡ get_or ds at 0) (x : ℕ) (ex : x ≡ get_or ds (at + 1) 0) (b : Bool)
@@ -115,27 +109,24 @@ module _ (ds : List ℕ) (at : ℕ) (l : at + 1 < length ds) (t : ℕ) (et : t �
   unfolding follows
   followed = sym (eq-eqb (t / 2 ^ 31 % 2) 1 (omega (arith, once.top)))
 
-  going : Going ds (at + 1) (length ds) (at + 1) true true
-  going = record { count = refl; same = refl }
-
   ext : Opened 64 ds at t (at + 2) true
   ext =
       let two : at + 1 + 1 ≡ at + 2 = omega arith in
-      let g : To (at + 2) ≡ ends (at + 1) (chain true (drop (at + 1) ds)) = rw two at (ended (goes_on going refl l x ex false (sym once.last)) refl) in
+      let g : Some (at + 2) ≡ ends (at + 1) (chain true (drop (at + 1) ds)) = rw two at (ended (begun ds (at + 1) refl) l ex (sym once.last) refl) in
       let w = chain_passed true ds (at + 1) (at + 2) (omega arith) g in
       let y : true ≡ op.exact_extension (slice (at + 1) (at + 2) ds) = one_extension ds (at + 1) (at + 2) (omega arith) w.within (omega arith) x true ex (sym once.good) in
-      opened 64 ds at t (at + 2) true (front_read 64 ds at (λ z. omega arith) (omega arith) t et true followed (at + 2) w true true true (sym once.sharp) y refl)
+      opened 64 ds at (t, at + 2, true) (front_read 64 ds at (λ z. omega arith) (omega arith) t et true followed (at + 2) w true true true (sym once.sharp) y refl)
 
   flat : Flat t
   flat = omega (arith, once.top)
 
   module _ (n : ℕ) (en : n ≡ length ds - at) (k : ℕ) (ek : k ≡ op.dimension t) where
-    pub once_read : k ≤ n - 2 → MeasuredRead 1 k (2 + k) true ≡ measured (operand 64 (drop at ds))
+    pub once_read : k ≤ n - 2 → read 1 k (2 + k) true ≡ measured (operand 64 (drop at ds))
     once_read h =
         let z : at + 2 - at + k ≡ 2 + k = omega arith in
-        ap (λ (j : ℕ). MeasuredRead 1 k j true) (sym z) ∙ tree_is ext false (sym once.indexed) refl (measured_flat ext.stands flat k ek (length ds) refl (omega arith) (operand 63))
+        ap (λ (j : ℕ). read 1 k j true) (sym z) ∙ tree_is ext false (sym once.indexed) refl (measured_flat ext.stands flat k ek (length ds) refl (omega arith) (operand 63))
 
-    pub once_short : n - 2 < k → Malformed ≡ measured (operand 64 (drop at ds))
+    pub once_short : n - 2 < k → None ≡ measured (operand 64 (drop at ds))
     once_short h = tree_is ext false (sym once.indexed) refl (measured_short ext.stands flat k ek (length ds) refl (omega arith) (operand 63))
 
 -- ---- an operand that was read has a row
@@ -158,49 +149,40 @@ rows_some zero ds = unmet
 rows_some (suc k) ds =
     all_then (anything (dword ds)) (λ t ds₁ _. all_then (anything (chain (follows t) ds₁)) (λ e ds₂ _. all_if (op.immediate t) _ _ ds₂ (λ i. immediates_some t e ds₂) (λ i. indices_some (operand k) t e ds₂)))
 
-pub some_row : (ds : List ℕ) {r w d : ℕ} {e : Bool} → Told (operand 64 ds) r w d e → 0 < r
-some_row ds x = go (rows_some 64 ds) x.is x.rows
+pub some_row : {ds : List ℕ} {at r w d : ℕ} {e : Bool} → Seen (operand 64 (drop at ds)) ds at r w d e → 0 < r
+some_row {ds} {at} x = go (rows_some 64 (drop at ds)) x.is x.rows_are
   where
     go : {g : Got Tree} {t : Tree} {l : List ℕ} {r : ℕ} → All (λ x r. 0 < tree_rows x) g → g ≡ got t l → tree_rows t ≡ r → 0 < r
     go unmet q z = impossible (cc)
     go {t = t} (met {a = y} h) q z = let k : y ≡ t = cc in let m : tree_rows y ≡ tree_rows t = ap tree_rows k in omega arith
 
--- and its rows and words are among its dwords
-pub fewer : (ds : List ℕ) (at : ℕ) → at < length ds → {r w d : ℕ} {e : Bool} → Told (operand 64 (drop at ds)) r w d e → (w + r ≤ d) × (at + d ≤ length ds)
-fewer ds at l x =
-    let y = taken ds at (omega arith) x.tree x.left x.is in
-    (omega (arith, y.fits, x.rows, x.words, x.dwords), omega (arith, y.within, x.dwords))
-
 -- what was told of one that is not usual
-pub record Surpassed (g : Got Tree) (m s d : ℕ) (e : Bool) : Type 0 where
+pub record Surpassed (ds : List ℕ) (at : ℕ) (s : Surplus) : Type 0 where
   pub rows : ℕ
   pub words : ℕ
-  pub told : Told g rows words d e
-  pub more : rows - 1 ≡ m
-  pub skipped : d - words - rows ≡ s
+  pub seen : Seen (operand 64 (drop at ds)) ds at rows words s.dwords s.exact
+  pub more : rows - 1 ≡ s.rows
+  pub skipped : s.dwords - words - rows ≡ s.skipped
 
-pub surpassed : (g : Got Tree) {m s d : ℕ} {e : Bool} {a : Surplus} → a ≡ surplus (measured g) → a ≡ SurplusRead m s d e → Surpassed g m s d e
-surpassed g {m} {s} {d} {e} p q = go (measured g) refl (sym q ∙ p)
+pub surpassed : (ds : List ℕ) (at : ℕ) → at ≤ length ds → (s : Surplus) → Some s ≡ surplus (measured (operand 64 (drop at ds))) → Surpassed ds at s
+surpassed ds at h s p = go (measured (operand 64 (drop at ds))) refl p
   where
-    go : (z : Measured) → measured g ≡ z → SurplusRead m s d e ≡ surplus z → Surpassed g m s d e
-    go Malformed f k = impossible (cc)
-    go (MeasuredRead r w d₁ e₁) f k =
-        let a : d₁ ≡ d = cc in
-        let b : e₁ ≡ e = cc in
-        let c : d₁ - w - r ≡ s = cc in
-        record { rows = r; words = w; told = told g (sym f) (λ i. MeasuredRead r w (a i) (b i)); more = (cc); skipped = rw (← a) c }
+    go : (z : Option Measured) → measured (operand 64 (drop at ds)) ≡ z → Some s ≡ surplus z → Surpassed ds at s
+    go None f k = impossible (cc)
+    go (Some m) f k =
+        let a : m.dwords ≡ s.dwords = cc in
+        let b : m.exact ≡ s.exact = cc in
+        let c : m.dwords - m.words - m.rows ≡ s.skipped = cc in
+        record { rows = m.rows; words = m.words; seen = rw (← a, ← b) (operand_seen 64 ds at h m (sym f)); more = (cc); skipped = rw (← a) c }
 
-pub surplus_lost : (g : Got Tree) {a : Surplus} → a ≡ surplus (measured g) → a ≡ SurplusLost → g ≡ malformed
-surplus_lost g p q = go (measured g) refl (sym q ∙ p)
-  where
-    go : (z : Measured) → measured g ≡ z → SurplusLost ≡ surplus z → g ≡ malformed
-    go Malformed f k = untold g (sym f) refl
-    go (MeasuredRead r w d e) f k = impossible (cc)
+pub surplus_lost : (g : Got Tree) → None ≡ surplus (measured g) → g ≡ malformed
+surplus_lost malformed p = refl
+surplus_lost (got t l) p = impossible (cc)
 
 -- ---- the loop: so many operands are passed up to a place, with rows beside their own and dwords that are no words; or the last of them ran off
 pub data Passing (k : ℕ) (ds : List ℕ) (from i at more skipped : ℕ) (exact : Bool) : Type 0 where
   inside : {words : ℕ} → Reading k ds from i at (i + more) words exact → words + (i + more) + skipped ≡ at - from → Passing k ds from i at more skipped exact
-  outside : length ds < at → at ≤ length ds + 5 → i ≤ k → Run k ds from Lost → Passing k ds from i at more skipped exact
+  outside : length ds < at → at ≤ length ds + 5 → i ≤ k → Run k ds from None → Passing k ds from i at more skipped exact
 
 pub start : (k : ℕ) (ds : List ℕ) (from : ℕ) → from ≤ length ds → Passing k ds from 0 from 0 0 true
 start k ds from h = inside (begin k ds from h) (omega arith)
@@ -211,15 +193,15 @@ module _ {k : ℕ} {ds : List ℕ} {from i at more skipped : ℕ} {exact : Bool}
   bounded (outside a b c r) = b
 
   -- past the end the operands are lost
-  pub lost_past : Passing k ds from i at more skipped exact → i < k → length ds ≤ at → Run k ds from Lost
+  pub lost_past : Passing k ds from i at more skipped exact → i < k → length ds ≤ at → Run k ds from None
   lost_past (inside q e) h l = stopped q h (operand_end 64 ds at l)
   lost_past (outside a b c r) h l = r
 
-  pub lost_off : Passing k ds from i at more skipped exact → length ds < at → Run k ds from Lost
+  pub lost_off : Passing k ds from i at more skipped exact → length ds < at → Run k ds from None
   lost_off (inside q e) l = absurd (omega (arith, q.within))
   lost_off (outside a b c r) l = r
 
-  pub lost_deep : Passing k ds from i at more skipped exact → i < k → operand 64 (drop at ds) ≡ malformed → Run k ds from Lost
+  pub lost_deep : Passing k ds from i at more skipped exact → i < k → operand 64 (drop at ds) ≡ malformed → Run k ds from None
   lost_deep (inside q e) h z = stopped q h z
   lost_deep (outside a b c r) h z = r
 
@@ -239,26 +221,25 @@ module _ {k : ℕ} {ds : List ℕ} {from i at more skipped : ℕ} {exact : Bool}
               inside (rw (a, and-true exact) at y) (omega (arith, q.begun))
 
   -- another
-  module _ (p : Passing k ds from i at more skipped exact) (h : i < k) (l : at < length ds) {m s d : ℕ} {e : Bool} (x : Surpassed (operand 64 (drop at ds)) m s d e) where
-    pub room : (more + m ≤ length ds) × (skipped + s ≤ length ds) × (at + d ≤ length ds)
+  module _ (p : Passing k ds from i at more skipped exact) (h : i < k) (l : at < length ds) {s : Surplus} (x : Surpassed ds at s) where
+    pub room : (more + s.rows ≤ length ds) × (skipped + s.skipped ≤ length ds) × (at + s.dwords ≤ length ds)
     room = go p
       where
-        go : Passing k ds from i at more skipped exact → (more + m ≤ length ds) × (skipped + s ≤ length ds) × (at + d ≤ length ds)
+        go : Passing k ds from i at more skipped exact → (more + s.rows ≤ length ds) × (skipped + s.skipped ≤ length ds) × (at + s.dwords ≤ length ds)
         go (inside q z) =
-            let y = fewer ds at l x.told in
-            let w = some_row (drop at ds) x.told in
-            (omega (arith, y, w, x.more, x.skipped), omega (arith, y, w, x.more, x.skipped), y.1)
+            let w = some_row x.seen in
+            (omega (arith, x.seen, w, x.more, x.skipped), omega (arith, x.seen, w, x.more, x.skipped), x.seen.within)
         go (outside a b c r) = absurd (omega arith)
 
-    pub past_other : (f : Bool) → f ≡ (exact && e) → Passing k ds from (i + 1) (at + d) (more + m) (skipped + s) f
-    past_other f ef = go p
+    pub past_other : Passing k ds from (i + 1) (at + s.dwords) (more + s.rows) (skipped + s.skipped) (exact && s.exact)
+    past_other = go p
       where
-        go : Passing k ds from i at more skipped exact → Passing k ds from (i + 1) (at + d) (more + m) (skipped + s) f
+        go : Passing k ds from i at more skipped exact → Passing k ds from (i + 1) (at + s.dwords) (more + s.rows) (skipped + s.skipped) (exact && s.exact)
         go (outside a b c r) = absurd (omega arith)
         go (inside {words = words} q z) =
-            let w = some_row (drop at ds) x.told in
-            let a : i + more + x.rows ≡ i + 1 + (more + m) = omega (arith, w, x.more) in
-            inside (rw (a, ← ef) at (turn q h x.told)) (omega (arith, fewer ds at l x.told, w, x.more, x.skipped, q.begun))
+            let w = some_row x.seen in
+            let a : i + more + x.rows ≡ i + 1 + (more + s.rows) = omega (arith, w, x.more) in
+            inside (rw a at (turn q h x.seen)) (omega (arith, x.seen, w, x.more, x.skipped, q.begun))
 
   -- all are passed
   module _ (p : Passing k ds from i at more skipped exact) (h : k ≤ i) (l : at ≤ length ds) where
@@ -269,10 +250,10 @@ module _ {k : ℕ} {ds : List ℕ} {from i at more skipped : ℕ} {exact : Bool}
         go (inside q e) = (q.begun, omega (arith, q.some))
         go (outside a b c s) = absurd (omega arith)
 
-    pub passed : Run k ds from (Read (k + more) (at - from - (k + more) - skipped) at exact)
+    pub passed : Ran k ds from (record { rows = k + more; words = at - from - (k + more) - skipped; end = at; exact = exact })
     passed = go p
       where
-        go : Passing k ds from i at more skipped exact → Run k ds from (Read (k + more) (at - from - (k + more) - skipped) at exact)
+        go : Passing k ds from i at more skipped exact → Ran k ds from (record { rows = k + more; words = at - from - (k + more) - skipped; end = at; exact = exact })
         go (outside a b c s) = absurd (omega arith)
         go (inside {words = words} q e) =
             let a : i + more ≡ k + more = omega (arith, q.some) in

@@ -2,7 +2,7 @@
 use Prim.Native.Nat.{ℕ, ◌-◌, ◌≤◌, ◌<◌}
 use mathlib.Core.Path.{◌≡◌, refl, sym, ap, ◌∙◌, subst}
 use mathlib.Core.List.{List, [], ◌∷◌, ◌++◌, append-nil}
-use mathlib.Core.Bool.{Bool, true, false, cond, ◌&&◌}
+use mathlib.Core.Bool.{Bool, true, false, cond, ◌&&◌, and-false}
 use lib.ListN.{length, get_or, drop, length-drop}
 use lib.Seq.{slice}
 use native.Mathlib.Omega.{arith}
@@ -16,16 +16,17 @@ use Rattle.format.specs.Instructions.{Instruction, pieces, ok, inexact, read_hea
 use Rattle.format.specs.Rows.{parts_rows, parts_words, parts, tree_words, tree_rows}
 use Rattle.format.proofs.Dwords.{impossible, All, unmet, met}
 use Rattle.format.proofs.Instructions.{makes_items}
+use Rattle.std.specs.Prelude.{Some, None, Result, Err}
 use Rattle.instruction.specs.declared.Body.{Body}
-use Rattle.instruction.specs.declared.Body.TheVariants.{Read as BodyRead, Off as BodyOff}
-use Rattle.instruction.specs.declared.Verdict.{Verdict}
-use Rattle.instruction.specs.declared.Verdict.TheVariants.{Fine, Miscounted, Inexact}
+use Rattle.instruction.specs.declared.Needs.{Needs}
+use Rattle.instruction.specs.declared.Fault.{Fault}
+use Rattle.instruction.specs.declared.Fault.TheVariants.{Miscounted, Inexact}
 use Rattle.instruction_fields.specs.Fields.{Sum, off, sum, total, sum_of, headed}
-use Rattle.instruction.specs.Measure.{body_of, verdict}
+use Rattle.instruction.specs.Measure.{fine, body_of, verdict}
 use Rattle.instruction_fields.proofs.Heads.{Headed}
 
 -- a code not known
-pub verdict_unread : (c : ℕ) (m : Bool) (ds : List ℕ) → c ≤ code_of ds → Fine 0 (length ds) ≡ verdict (read c m ds)
+pub verdict_unread : (c : ℕ) (m : Bool) (ds : List ℕ) → c ≤ code_of ds → fine 0 (length ds) ≡ verdict (read c m ds)
 unfolding read parts parts_rows parts_words tree_rows tree_words
 verdict_unread c m ds h = rw (le-ltb (code_of ds) c h, append-nil, append-nil ds)
 
@@ -69,7 +70,7 @@ module _ (x : Layout) (m : Bool) (ds : List ℕ) (t : ℕ) (h : 0 < length ds) (
   unfolding judged
   faulty z = sym (ap (λ (g : Got Instruction). verdict (judged x g)) z)
 
-  pub head_lost : {r : Verdict} → r ≡ verdict (fault x) → read_head x t (drop 1 ds) ≡ malformed → r ≡ verdict (judged x (split m x ds))
+  pub head_lost : {r : Result Needs Fault} → r ≡ verdict (fault x) → read_head x t (drop 1 ds) ≡ malformed → r ≡ verdict (judged x (split m x ds))
   head_lost f e = f ∙ faulty (split_head ∙ rw e)
 
   module _ {b : ℕ} (k : Headed x t ds b) where
@@ -84,24 +85,24 @@ module _ (x : Layout) (m : Bool) (ds : List ℕ) (t : ℕ) (h : 0 < length ds) (
         go (kept f) z = impossible (cc)
 
     -- whether the pieces are exact
-    abbrev fine : Bool → Bool
-    fine ex = headed x t e (length ds - b) && ex
+    abbrev sharp : Bool → Bool
+    sharp ex = headed x t e (length ds - b) && ex
 
-    checks : (ps : List Tree) → read_items m x.items (drop b ds) ≡ got ps [] → cond (fine (op.exact_parts ps)) (Fine (parts_rows ps) (length (parts_words ps))) Inexact ≡ verdict (judged x (split m x ds))
+    checks : (ps : List Tree) → read_items m x.items (drop b ds) ≡ got ps [] → cond (sharp (op.exact_parts ps)) (fine (parts_rows ps) (length (parts_words ps))) (Err Inexact) ≡ verdict (judged x (split m x ds))
     unfolding judged checked exact_pieces exact_class none_left parts headed
     checks ps f =
         let n : length (op.parts_dwords ps) ≡ length ds - b = parts_left (makes_items m x.items (drop b ds)) f ∙ length-drop b ds in
         let z : split m x ds ≡ got (pieces t e ps) [] = split_head ∙ rw (k.is, f) in
-        rw (z, n) (go (fine (op.exact_parts ps)))
+        rw (z, n) (go (sharp (op.exact_parts ps)))
       where
-        go : (q : Bool) → cond q (Fine (parts_rows ps) (length (parts_words ps))) Inexact ≡ verdict (cond q (ok (pieces t e ps)) inexact)
+        go : (q : Bool) → cond q (fine (parts_rows ps) (length (parts_words ps))) (Err Inexact) ≡ verdict (cond q (ok (pieces t e ps)) inexact)
         go true = refl
         go false = refl
 
-    items_kept : {r w : ℕ} {ex : Bool} → sum_of m x.items (drop b ds) ≡ sum r w ex → cond (fine ex) (Fine r w) Inexact ≡ verdict (judged x (split m x ds))
+    items_kept : {r w : ℕ} {ex : Bool} → sum_of m x.items (drop b ds) ≡ sum r w ex → cond (sharp ex) (fine r w) (Err Inexact) ≡ verdict (judged x (split m x ds))
     items_kept {r} {w} {ex} z = go (summed m x (drop b ds)) z
       where
-        go : {a : Sum} → Summed m x (drop b ds) a → a ≡ sum r w ex → cond (fine ex) (Fine r w) Inexact ≡ verdict (judged x (split m x ds))
+        go : {a : Sum} → Summed m x (drop b ds) a → a ≡ sum r w ex → cond (sharp ex) (fine r w) (Err Inexact) ≡ verdict (judged x (split m x ds))
         go (lost f) z = impossible (cc)
         go (kept {ps = ps} f) z =
             let a : parts_rows ps ≡ r = cc in
@@ -110,52 +111,48 @@ module _ (x : Layout) (m : Bool) (ds : List ℕ) (t : ℕ) (h : 0 < length ds) (
             rw (← a, ← d, ← q) (checks ps f)
 
     -- by what the code was told of the parts
-    pub parts_off : {r : Verdict} {y : Body} → r ≡ verdict (fault x) → y ≡ body_of (sum_of m x.items (drop b ds)) → y ≡ BodyOff → r ≡ verdict (judged x (split m x ds))
-    parts_off {r} f p q = go (sum_of m x.items (drop b ds)) refl (sym q ∙ p)
+    pub parts_off : {r : Result Needs Fault} → r ≡ verdict (fault x) → None ≡ body_of (sum_of m x.items (drop b ds)) → r ≡ verdict (judged x (split m x ds))
+    parts_off {r} f p = go (sum_of m x.items (drop b ds)) refl p
       where
-        go : (a : Sum) → sum_of m x.items (drop b ds) ≡ a → BodyOff ≡ body_of a → r ≡ verdict (judged x (split m x ds))
+        go : (a : Sum) → sum_of m x.items (drop b ds) ≡ a → None ≡ body_of a → r ≡ verdict (judged x (split m x ds))
         go off z w = f ∙ items_lost z
         go (sum u v ex) z w = impossible (cc)
 
-    told : {rows words : ℕ} {ex : Bool} {y : Body} → y ≡ body_of (sum_of m x.items (drop b ds)) → y ≡ BodyRead rows words ex → sum_of m x.items (drop b ds) ≡ sum rows words ex
-    told {rows} {words} {ex} p q = go (sum_of m x.items (drop b ds)) refl (sym q ∙ p)
-      where
-        go : (a : Sum) → sum_of m x.items (drop b ds) ≡ a → BodyRead rows words ex ≡ body_of a → sum_of m x.items (drop b ds) ≡ sum rows words ex
-        go off z w = impossible (cc)
-        go (sum u v g) z w =
-            let a₁ : u ≡ rows = cc in
-            let a₂ : v ≡ words = cc in
-            let a₃ : g ≡ ex = cc in
-            z ∙ (λ i. sum (a₁ i) (a₂ i) (a₃ i))
+    module _ {y : Body} (p : Some y ≡ body_of (sum_of m x.items (drop b ds))) where
+      told : sum_of m x.items (drop b ds) ≡ sum y.rows y.words y.exact
+      told = go (sum_of m x.items (drop b ds)) refl p
+        where
+          go : (a : Sum) → sum_of m x.items (drop b ds) ≡ a → Some y ≡ body_of a → sum_of m x.items (drop b ds) ≡ sum y.rows y.words y.exact
+          go off z w = impossible (cc)
+          go (sum u v g) z w =
+              let a₁ : u ≡ y.rows = cc in
+              let a₂ : v ≡ y.words = cc in
+              let a₃ : g ≡ y.exact = cc in
+              z ∙ (λ i. sum (a₁ i) (a₂ i) (a₃ i))
 
-    module _ {rows words : ℕ} {ex : Bool} {y : Body} (p : y ≡ body_of (sum_of m x.items (drop b ds))) (q : y ≡ BodyRead rows words ex) where
-      and_no : (a : Bool) → (a && false) ≡ false
-      and_no true = refl
-      and_no false = refl
+      pub parts_inexact : y.exact ≡ false → Err Inexact ≡ verdict (judged x (split m x ds))
+      parts_inexact z = sym (rw (z, and-false (headed x t e (length ds - b))) at (sym (items_kept told)))
 
-      pub parts_inexact : ex ≡ false → Inexact ≡ verdict (judged x (split m x ds))
-      parts_inexact z = sym (rw (z, and_no (headed x t e (length ds - b))) at (sym (items_kept (told p q))))
+      pub head_inexact : (c : Bool) → c ≡ headed x t e (length ds - b) → c ≡ false → Err Inexact ≡ verdict (judged x (split m x ds))
+      head_inexact c f z = sym (rw (← f, z) at (sym (items_kept told)))
 
-      pub head_inexact : (c : Bool) → c ≡ headed x t e (length ds - b) → c ≡ false → Inexact ≡ verdict (judged x (split m x ds))
-      head_inexact c f z = sym (rw (← f, z) at (sym (items_kept (told p q))))
-
-      pub all_fine : ex ≡ true → (c : Bool) → c ≡ headed x t e (length ds - b) → c ≡ true → Fine rows words ≡ verdict (judged x (split m x ds))
-      all_fine z c f w = sym (rw (z, ← f, w) at (sym (items_kept (told p q))))
+      pub all_fine : y.exact ≡ true → (c : Bool) → c ≡ headed x t e (length ds - b) → c ≡ true → fine y.rows y.words ≡ verdict (judged x (split m x ds))
+      all_fine z c f w = sym (rw (z, ← f, w) at (sym (items_kept told)))
 
 -- the fault
 module _ (x : Layout) where
-  pub uncounted : (x.kind ≡ 1 → ⊥) → Inexact ≡ verdict (fault x)
+  pub uncounted : (x.kind ≡ 1 → ⊥) → Err Inexact ≡ verdict (fault x)
   unfolding fault
   uncounted h = rw (ne_eqb x.kind 1 h)
 
-  pub count_0 : x.kind ≡ 1 → (n : ℕ) → n ≡ length x.items → n ≤ 1 → Inexact ≡ verdict (fault x)
+  pub count_0 : x.kind ≡ 1 → (n : ℕ) → n ≡ length x.items → n ≤ 1 → Err Inexact ≡ verdict (fault x)
   unfolding fault
   count_0 e n f h = rw (eq-eqb x.kind 1 e, ← f, le-ltb 1 n h)
 
-  pub count_above : x.kind ≡ 1 → (n : ℕ) → n ≡ length x.items → 1 < n → Miscounted ≡ verdict (fault x)
+  pub count_above : x.kind ≡ 1 → (n : ℕ) → n ≡ length x.items → 1 < n → Err Miscounted ≡ verdict (fault x)
   unfolding fault
   count_above e n f h = rw (eq-eqb x.kind 1 e, ← f, lt-ltb 1 n h)
 
-pub verdict_unread_at : (c : ℕ) (m : Bool) (ds : List ℕ) (t : ℕ) → t ≡ get_or ds 0 0 → (n : ℕ) → n ≡ length ds → c ≤ code t → Fine 0 n ≡ verdict (read c m ds)
+pub verdict_unread_at : (c : ℕ) (m : Bool) (ds : List ℕ) (t : ℕ) → t ≡ get_or ds 0 0 → (n : ℕ) → n ≡ length ds → c ≤ code t → fine 0 n ≡ verdict (read c m ds)
 unfolding code_of
-verdict_unread_at c m ds t et n en h = ap (Fine 0) en ∙ verdict_unread c m ds (subst (λ (x : ℕ). c ≤ code x) et h)
+verdict_unread_at c m ds t et n en h = ap (fine 0) en ∙ verdict_unread c m ds (subst (λ (x : ℕ). c ≤ code x) et h)
