@@ -8,3 +8,4 @@ pub mod Fields
 pub mod SameRows
 pub mod Found
 pub mod Walks
+pub mod Told
