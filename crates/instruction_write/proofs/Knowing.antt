@@ -3,6 +3,7 @@ use Prim.Native.Nat.{ℕ, ◌*◌, ◌<◌, ◌≤◌}
 use mathlib.Core.Path.{◌≡◌, refl, sym, ◌∙◌, ap, subst}
 use mathlib.Core.Bool.{Bool, true, false, cond, ◌&&◌}
 use mathlib.Core.List.{List, [], ◌∷◌, ◌++◌, append-nil}
+use Rattle.std.specs.Prelude.{Option, Some, None, IsSome}
 use native.Mathlib.Omega.{arith}
 use lib.ListN.{length, get_or, drop}
 use lib.Seq.{slice}
@@ -22,8 +23,6 @@ use Rattle.layouts.specs.declared.Shape.{Shape}
 use Rattle.layouts.specs.Shapes.{Laid, meant, items_of}
 use Rattle.tokens.proofs.Places.{dword_at_lem}
 use Rattle.tokens.specs.Chains.{ends}
-use Rattle.tokens.specs.declared.Skip.{Skip}
-use Rattle.tokens.specs.declared.Skip.TheVariants.{Off}
 use Rattle.instruction_fields.proofs.Heads.{Headed, head_off}
 use Rattle.instruction_write.specs.Writes.{row_for, plain_row, RowReady, Put, BodyRoom, WroteBody, UnreadRoom, Unread, Ready, Stored, Written}
 use Rattle.instruction_write.specs.declared.Sizes.{Sizes}
@@ -91,11 +90,13 @@ module _ (m : Bool) (s : Shape) (t : ℕ) (ds : List ℕ) (et : t ≡ get_or ds 
   pub acc : Accepted m (meant s) t ds q.instruction
   acc = accepted m (meant s) t ds q.instruction q.some et (same_layout ∙ q.is)
 
-  pub known_lost : {A : Type 0} {k : Skip} → k ≡ ends 1 (read_head (meant s) t (drop 1 ds)) → k ≡ Off → A
-  known_lost e f =
-      let z : read_head (meant s) t (drop 1 ds) ≡ malformed = head_off (meant s) t ds e f in
+  -- the place behind its head is known
+  pub headed : (k : Option ℕ) → k ≡ ends 1 (read_head (meant s) t (drop 1 ds)) → IsSome k
+  headed None e =
+      let z : read_head (meant s) t (drop 1 ds) ≡ malformed = head_off (meant s) t ds e refl in
       let y : malformed ≡ got acc.exts acc.middle = sym z ∙ acc.head in
       impossible (cc)
+  headed (Some b) e = refl
 
   pub parts_are : {i : Instruction} {e : List ℕ} {ps : List Tree} → i ≡ pieces t e ps → parts i ≡ ps
   unfolding parts

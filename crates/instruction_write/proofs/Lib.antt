@@ -4,5 +4,3 @@ pub mod Looping
 pub mod Parted
 pub mod Knowing
 mod Plainly
-mod Counting
-mod Declaring

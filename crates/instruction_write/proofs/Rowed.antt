@@ -13,7 +13,7 @@ use Rattle.format.specs.Counts.{Fields, of_type, type_bits, rising}
 use Rattle.format.specs.Declarations.{Layout}
 use Rattle.format.specs.Instructions.{fields_of, extensions}
 use Rattle.layouts.specs.declared.Shape.{Shape}
-use Rattle.layouts.specs.Shapes.{meant}
+use Rattle.layouts.specs.Shapes.{kind_number, meant}
 use Rattle.instruction_write.specs.Writes.{row_for, long_bit, RowReady, plain_row, Unread}
 use Rattle.instruction_write.specs.declared.Sizes.{Sizes}
 
@@ -33,9 +33,9 @@ chain_places kind end to n e h k = go (ltb kind 3) e
     go true z = (omega arith, omega arith)
     go false z = (omega arith, omega arith)
 
-pub chain_rises : (s : Shape) (ds : List ℕ) (end to words : ℕ) → to ≡ cond (ltb s.kind 3) end 1 → RowReady s ds end words → (1 ≤ to) × (to ≤ length ds) × (rising 0 (slice 1 to ds) ≡ true)
+pub chain_rises : (s : Shape) (ds : List ℕ) (end to words : ℕ) → to ≡ cond (ltb (kind_number s.kind) 3) end 1 → RowReady s ds end words → (1 ≤ to) × (to ≤ length ds) × (rising 0 (slice 1 to ds) ≡ true)
 chain_rises s ds end to words e q =
-    let p = chain_places s.kind end to (length ds) e q.from q.within in
+    let p = chain_places (kind_number s.kind) end to (length ds) e q.from q.within in
     (p.0, p.1, ap (rising 0) (chain_slice (meant s) ds end to e) ∙ q.rises)
 
 pub row_is : (x : Layout) (t : ℕ) (ds : List ℕ) (end to at n r k w m b l e₁ e₂ e₃ : ℕ) (f : Fields) → to ≡ cond (ltb x.kind 3) end 1 → n ≡ length ds → f ≡ fields_of x t → b ≡ type_bits (slice 1 to ds) → l ≡ long_bit t

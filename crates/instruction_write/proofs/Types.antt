@@ -14,29 +14,20 @@ use Rattle.format.proofs.Dwords.{impossible}
 use Rattle.instruction_write.specs.Writes.{type_bit}
 
 -- none of a type stands before a place
-pub record Sought (ds : List ℕ) (from to k at : ℕ) : Type 0 where
-  pub within : at ≤ to
-  pub ends : to ≤ length ds
-  pub same : of_type k (slice from to ds) ≡ of_type k (slice at to ds)
-
-module _ {ds : List ℕ} {from to k at : ℕ} (q : Sought ds from to k at) (h : at < to) (e : ℕ) (ee : e ≡ get_or ds at 0) where
+module _ (ds : List ℕ) (from to k at : ℕ) (q : of_type k (slice from to ds) ≡ of_type k (slice at to ds)) (h : at < to) (l : to ≤ length ds) (e : ℕ) (ee : e ≡ get_or ds at 0) where
   first : of_type k (slice at to ds) ≡ cond (eqb (extension_type e) k) e (of_type k (slice (suc at) to ds))
   unfolding of_type
-  first = rw (slice-cons at to ds 0 h q.ends, ← ee)
+  first = rw (slice-cons at to ds 0 h l, ← ee)
 
   pub found : extension_type e ≡ k → e ≡ of_type k (slice from to ds)
-  found z = sym (q.same ∙ first ∙ rw (eq-eqb (extension_type e) k z))
+  found z = sym (q ∙ first ∙ rw (eq-eqb (extension_type e) k z))
 
-  pub seeks_on : (extension_type e ≡ k → ⊥) → Sought ds from to k (at + 1)
-  seeks_on z =
-      let s : at + 1 ≡ suc at = omega arith in
-      record { within = omega arith; ends = q.ends; same = rw s (q.same ∙ first ∙ rw (ne_eqb (extension_type e) k z)) }
+  pub seeks_on : (extension_type e ≡ k → ⊥) → of_type k (slice from to ds) ≡ of_type k (slice (at + 1) to ds)
+  seeks_on z = let s : at + 1 ≡ suc at = omega arith in rw s (q ∙ first ∙ rw (ne_eqb (extension_type e) k z))
 
-pub not_found : {ds : List ℕ} {from to k at : ℕ} → Sought ds from to k at → to ≤ at → 0 ≡ of_type k (slice from to ds)
+pub not_found : (ds : List ℕ) (from to k at : ℕ) → at ≡ to → of_type k (slice from to ds) ≡ of_type k (slice at to ds) → 0 ≡ of_type k (slice from to ds)
 unfolding of_type
-not_found {ds} {from} {to} {k} {at} q h =
-    let z : at ≡ to = omega (arith, q.within) in
-    sym (q.same ∙ ap (λ (n : ℕ). of_type k (slice n to ds)) z ∙ rw (slice_empty to ds))
+not_found ds from to k at e q = sym (q ∙ rw (e, slice_empty to ds))
 
 -- bits of the types before a place, which are no more than last
 pub record Summed (ds : List ℕ) (from to at sum : ℕ) : Type 0 where
@@ -127,25 +118,3 @@ summed {ds} {from} {to} {at} {sum} q h =
     let z : at ≡ to = omega (arith, q.within) in
     let e : type_bits (slice from to ds) ≡ sum + 0 = q.same ∙ ap (λ (n : ℕ). sum + type_bits (slice n to ds)) z ∙ rw (slice_empty to ds) in
     (omega arith, most sum q.last q.low q.below)
-
--- the code's branches
-pub bit_1 : (k : ℕ) → k ≡ 1 → 1 ≡ type_bit k
-bit_1 k e = rw e
-
-pub bit_2 : (k : ℕ) → k ≡ 2 → 2 ≡ type_bit k
-bit_2 k e = rw e
-
-pub bit_3 : (k : ℕ) → 0 < k → k < 4 → (k ≡ 1 → ⊥) → (k ≡ 2 → ⊥) → 4 ≡ type_bit k
-bit_3 k a b c d = let e : k ≡ 3 = omega (arith, c, d) in rw e
-
-pub chained_at : (kind end : ℕ) → kind < 3 → end ≡ cond (ltb kind 3) end 1
-chained_at kind end h = rw (lt-ltb kind 3 h)
-
-pub unchained_at : (kind end : ℕ) → 3 ≤ kind → 1 ≡ cond (ltb kind 3) end 1
-unchained_at kind end h = rw (le-ltb kind 3 h)
-
-pub cond_yes : (b m : Bool) → b ≡ m → b ≡ true → ◌≡◌ {A = ℕ} 8 (cond m 8 0)
-cond_yes b m e z = rw (← e, z)
-
-pub cond_no : (b m : Bool) → b ≡ m → b ≡ false → ◌≡◌ {A = ℕ} 0 (cond m 8 0)
-cond_no b m e z = rw (← e, z)

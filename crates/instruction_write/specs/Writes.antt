@@ -1,20 +1,18 @@
 -- What is written of an instruction: its row, the rows of its operands and its words.
 use Rattle.std.specs.Prelude.{ℕ, ◌+◌, ◌-◌, ◌*◌, ◌%◌, ◌^◌, ◌<◌, ◌≤◌, ◌≡◌, true, false, cond, List, [], ◌∷◌, ◌++◌, length, drop, replicate}
 use Rattle.std.proofs.Math.Seq.{slice}
-use Rattle.std.proofs.Math.Option.{some}
 use Rattle.format.specs.Dwords.{bits, Got, got, Reader}
 use Rattle.format.specs.Framing.{code, long}
-use Rattle.format.specs.Counts.{operand_count, of_type, type_bits, rising}
-use Rattle.format.specs.Declarations.{Item, Layout, o}
+use Rattle.format.specs.Counts.{of_type, type_bits, rising}
+use Rattle.format.specs.Declarations.{Layout, o}
 use Rattle.format.specs.Operands as op
 use Rattle.format.specs.Operands.{Tree}
 use Rattle.format.specs.Instructions.{Instruction, Reading, ok, read_items, fields_of, extensions}
 use Rattle.format.specs.Rows.{parts_rows, parts_words, parts_table, parts, instruction_row}
 use Rattle.layouts.specs.declared.Shape.{Shape}
-use Rattle.layouts.specs.Shapes.{Sound, Laid, meant, items_of}
-use Rattle.layouts.specs.Table.{plain_shape, width_of}
-use Rattle.instruction_fields.specs.Fields.{plain_token}
+use Rattle.layouts.specs.Shapes.{Sound, meant}
 use Rattle.operand_rows.specs.declared.Sums.{Sums}
+use Rattle.instruction_write.specs.declared.Place.{Place}
 use Rattle.instruction_write.specs.declared.Row.{Row}
 use Rattle.instruction_write.specs.declared.Sizes.{Sizes}
 
@@ -43,13 +41,27 @@ row_for x t e at n r k w m =
 abbrev pub plain_row : ℕ → ℕ → ℕ → ℕ → ℕ → List ℕ
 plain_row n c at r w = at ∷ n ∷ c ∷ 0 ∷ 0 ∷ 0 ∷ 0 ∷ 0 ∷ 0 ∷ 0 ∷ 0 ∷ 0 ∷ r ∷ 0 ∷ w ∷ n ∷ []
 
--- the shape of a code of n operands
-abbrev pub counted_shape : ℕ → ℕ → Shape
-counted_shape c n = plain_shape 1 (width_of c) n true
-
--- its items, which are the same for every such code
-abbrev pub counted_items : ℕ → List Item
-counted_items n = items_of (counted_shape 0 n)
+-- the row of an instruction of a code, of so many dwords, operands and words, without what its token and its extensions tell
+abbrev pub bare : Place → ℕ → ℕ → ℕ → ℕ → ℕ → Row
+bare p n c k m ws =
+    record {
+      offset = p.offset;
+      dwords = n;
+      code = c;
+      kind = k;
+      saturate = 0;
+      test = 0;
+      precise = 0;
+      field = 0;
+      extensions = 0;
+      offsets = 0;
+      second = 0;
+      third = 0;
+      row = p.row;
+      operands = m;
+      word = p.word;
+      words = ws;
+    }
 
 -- a row can be made: what stands after the token is exact, and the numbers fit
 pub record RowReady (s : Shape) (ds : List ℕ) (end words : ℕ) : Type 0 where
@@ -57,23 +69,6 @@ pub record RowReady (s : Shape) (ds : List ℕ) (end words : ℕ) : Type 0 where
   pub from : 1 ≤ end
   pub within : end ≤ length ds
   pub rises : rising 0 (extensions (meant s) (slice 1 end ds)) ≡ true
-  pub few : length ds < 2 ^ 32
-  pub words_fit : words < 2 ^ 32
-
--- the row of a plain token can be made
-pub record PlainReady (ds : List ℕ) (t words : ℕ) : Type 0 where
-  pub count : ℕ
-  pub counts : operand_count (code t) ≡ some count
-  pub plain : plain_token t ≡ true
-  pub other : code t ≡ 190 → ⊥
-  pub few : length ds < 2 ^ 32
-  pub words_fit : words < 2 ^ 32
-
--- the row of a declaration can be made that is not in the long form
-pub record DeclaredReady (s : Shape) (ds : List ℕ) (t words : ℕ) : Type 0 where
-  pub laid : Laid (code t) s
-  pub declares : s.kind ≡ 4
-  pub short : long t ≡ false
   pub few : length ds < 2 ^ 32
   pub words_fit : words < 2 ^ 32
 
@@ -143,7 +138,3 @@ pub record Stored (i : Instruction) (at row word : ℕ) (is ops ws : List ℕ) (
 
 abbrev pub Written : Reading → ℕ → ℕ → ℕ → List ℕ → List ℕ → List ℕ → Sizes → List ℕ → List ℕ → List ℕ → Type 0
 Written g at row word is ops ws a is' ops' ws' = (i : Instruction) → g ≡ ok i → Stored i at row word is ops ws a is' ops' ws'
-
--- the rows of operands, if any, are as they were
-abbrev pub WrittenWords : Reading → ℕ → ℕ → ℕ → List ℕ → List ℕ → Sizes → List ℕ → List ℕ → Type 0
-WrittenWords g at row word is ws a is' ws' = (ops : List ℕ) → Written g at row word is ops ws a is' ops ws'

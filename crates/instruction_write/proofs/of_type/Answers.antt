@@ -1,26 +1,15 @@
-use mathlib.Core.Path.{refl}
-use native.Mathlib.Omega.{arith}
-use Rattle.format.proofs.Dwords.{length_dwords}
+use Rattle.std.proofs.Common.{rules}
+use Rattle.format.specs.Dwords.{dwords_of}
 use Rattle.instruction_write.proofs.Types.{found, seeks_on, not_found}
 use Rattle.instruction_write.proofs.of_type.Goals as goal
-
-pub loop-at-init : goal.loop-at-init
-loop-at-init c = record { within = c.requires.0; ends = c.requires.1; same = refl }
-
-pub dword-e-requires : goal.dword-e-requires
-dword-e-requires c = omega (arith, c.loop-at.invariant)
+use mathlib.Core.Path.{refl}
+use native.Mathlib.Omega.{arith}
 
 pub returns-then-e-k : goal.returns-then-e-k
-returns-then-e-k c = found c.loop-at.invariant c.loop-at-test.true _ c.dword-e.ensures c.if-e-k.true
-
-pub overflow_add-at : goal.overflow_add-at
-overflow_add-at c = omega (arith, c.loop-at.invariant, length_dwords c.args.part.now, c.well_formed)
-
-pub loop-at-smaller : goal.loop-at-smaller
-loop-at-smaller c = omega arith
+returns-then-e-k c = let a = c.args in found (dwords_of a.part.now) a.from a.to a.k c.loop-at.at c.loop-at.invariant c.loop-at-test.true c.requires.1 _ c.dword-e.ensures c.if-e-k.true
 
 pub loop-at-preserved : goal.loop-at-preserved
-loop-at-preserved c = seeks_on c.loop-at.invariant c.loop-at-test.true _ c.dword-e.ensures c.if-e-k.false
+loop-at-preserved c = let a = c.args in seeks_on (dwords_of a.part.now) a.from a.to a.k c.loop-at.at c.loop-at.invariant c.loop-at-test.true c.requires.1 _ c.dword-e.ensures c.if-e-k.false
 
 pub returns : goal.returns
-returns c = not_found c.loop-at.invariant c.loop-at-test.false
+returns c = let a = c.args in not_found (dwords_of a.part.now) a.from a.to a.k c.loop-at.at (omega arith) c.loop-at.invariant

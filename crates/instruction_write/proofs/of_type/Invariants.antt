@@ -1,10 +1,8 @@
-use Prim.Native.Nat.{◌-◌}
+use Rattle.std.proofs.Common.{◌≡◌}
+use lib.Seq.{slice}
+use Rattle.format.specs.Counts.{of_type}
 use Rattle.format.specs.Dwords.{dwords_of}
-use Rattle.instruction_write.proofs.Types.{Sought}
 use Rattle.instruction_write.proofs.of_type.Given as goal
 
 abbrev pub invariant-loop-at : goal.invariant-loop-at
-invariant-loop-at l = Sought (dwords_of l.part) l.from l.to l.k l.at
-
-abbrev pub decreases-loop-at : goal.decreases-loop-at
-decreases-loop-at l = l.to - l.at
+invariant-loop-at l = of_type l.k (slice l.from l.to (dwords_of l.part)) ≡ of_type l.k (slice l.at l.to (dwords_of l.part))
