@@ -7,7 +7,7 @@ use lib.ListN.{length, get_or}
 use lib.Seq.{slice, slice-cons, slice_empty}
 use lib.Dec.{ltb, eqb}
 use native.Mathlib.Omega.{arith}
-use borrow.Author.Tests.{lt-ltb, le-ltb, eq-eqb, ne_eqb, ltb-true}
+use borrow.Author.Tests.{eq-eqb, ne_eqb, ltb-true}
 use Rattle.format.specs.Dwords.{bits}
 use Rattle.format.specs.Counts.{extension_type, lower_bits, rising, of_type, type_bits}
 use Rattle.format.proofs.Dwords.{impossible}

@@ -116,10 +116,7 @@ fn type_bits(part: &[u8], from: usize, to: usize) -> u32
 fn chain_end(kind: Kind, end: usize) -> usize
     ensures { result ≡ cond (ltb (kind_number kind) 3) end 1 }
 {
-    match kind {
-        Kind::Counted | Kind::Opaque => end,
-        _ => 1,
-    }
+    if kind.has_chain() { end } else { 1 }
 }
 
 // 8 for the long form.

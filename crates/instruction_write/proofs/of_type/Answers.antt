@@ -1,8 +1,6 @@
-use Rattle.std.proofs.Common.{rules}
 use Rattle.format.specs.Dwords.{dwords_of}
 use Rattle.instruction_write.proofs.Types.{found, seeks_on, not_found}
 use Rattle.instruction_write.proofs.of_type.Goals as goal
-use mathlib.Core.Path.{refl}
 use native.Mathlib.Omega.{arith}
 
 pub returns-then-e-k : goal.returns-then-e-k

@@ -1,7 +1,6 @@
 -- The fields of the token and the bits of the extensions.
 use mathlib.Core.Path.{refl}
-use Rattle.layouts.specs.Shapes.{kind_number, meant}
-use native.Mathlib.Omega.{arith}
+use Rattle.layouts.specs.Shapes.{meant}
 use Rattle.format.specs.Dwords.{dwords_of}
 use Rattle.instruction_write.proofs.Rowed.{chain_rises, row_is}
 use Rattle.instruction_write.proofs.Source.known_row.Goals as goal

@@ -1,5 +1,5 @@
 -- The row of a plain token, from its bits.
-use mathlib.Core.Path.{◌≡◌, refl, sym, ap, ◌∙◌}
+use mathlib.Core.Path.{refl, sym, ap, ◌∙◌}
 use Prim.Native.Nat.{◌^◌, ◌<◌}
 use native.Mathlib.Omega.{arith}
 use Rattle.format.specs.Dwords.{dwords_of}

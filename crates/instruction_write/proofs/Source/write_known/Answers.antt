@@ -1,5 +1,5 @@
 -- Head, parts and row, as they were accepted.
-use mathlib.Core.Path.{refl, sym, ◌∙◌}
+use mathlib.Core.Path.{◌∙◌}
 use Rattle.format.specs.Dwords.{dwords_of}
 use Rattle.instruction_fields.proofs.Heads.{headed_at}
 use Rattle.layouts.specs.Shapes.{meant}
