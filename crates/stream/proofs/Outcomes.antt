@@ -11,7 +11,8 @@ use Rattle.format.specs.Instructions.{Instruction}
 use Rattle.format.specs.Refusals.{Outcome, refused, accepted, unless, first_pass, second_pass, readings, is_model51, body}
 use Rattle.format.specs.Rows.{parts_rows, parts_words, all_parts}
 use Rattle.format.proofs.Dwords.{impossible}
-use Rattle.stream.specs.declared.Measured.TheVariants.{Fine, Refused}
+use Rattle.std.specs.Prelude.{Ok, Err}
+use Rattle.stream.specs.declared.Needs.{Needs}
 use Rattle.stream.specs.Stream.{passes, measured}
 
 -- an outcome with the version token in it
@@ -37,24 +38,24 @@ module _ (c : ℕ) (ds : List ℕ) where
     body_is e = body_passes ∙ ap (versioned (get_or ds 0 0)) ((rw q at e))
 
     -- refused
-    pub refused_body : {r : Refusal} → Refused r ≡ measured (passes c m ds) → body c ds ≡ refused r
+    pub refused_body : {r : Refusal} → Err r ≡ measured (passes c m ds) → body c ds ≡ refused r
     refused_body {r} e = go (passes c m ds) refl e
       where
-        go : (a : Outcome) → passes c m ds ≡ a → Refused r ≡ measured a → body c ds ≡ refused r
+        go : (a : Outcome) → passes c m ds ≡ a → Err r ≡ measured a → body c ds ≡ refused r
         go (refused p) x y = body_is x ∙ ap (λ (k : Refusal). refused k) ((cc))
         go (accepted v l) x y = impossible (cc)
 
     -- accepted: what was read, and how much of it there is
-    pub record Counted (i o w : ℕ) : Type 0 where
+    pub record Counted (n : Needs) : Type 0 where
       pub list : List Instruction
       pub is : body c ds ≡ accepted (get_or ds 0 0) list
-      pub instructions : i ≡ length list
-      pub operands : o ≡ parts_rows (all_parts list)
-      pub words : w ≡ length (parts_words (all_parts list))
+      pub instructions : n.instructions ≡ length list
+      pub operands : n.operands ≡ parts_rows (all_parts list)
+      pub words : n.words ≡ length (parts_words (all_parts list))
 
-    pub fine_body : {i o w : ℕ} → Fine i o w ≡ measured (passes c m ds) → Counted i o w
-    fine_body {i} {o} {w} e = go (passes c m ds) refl e
+    pub fine_body : {n : Needs} → Ok n ≡ measured (passes c m ds) → Counted n
+    fine_body {n} e = go (passes c m ds) refl e
       where
-        go : (a : Outcome) → passes c m ds ≡ a → Fine i o w ≡ measured a → Counted i o w
+        go : (a : Outcome) → passes c m ds ≡ a → Ok n ≡ measured a → Counted n
         go (refused p) x y = impossible (cc)
         go (accepted v l) x y = record { list = l; is = body_is x; instructions = (cc); operands = (cc); words = (cc) }

@@ -1,7 +1,7 @@
 // The reader's first pass over a chunk's stream: refused with 11, 12, 13 or 14, or the rows and words that it needs.
 #![tactic(auto)]
 
-ghost use Rattle.std.specs.Prelude.{◌≡◌, ◌+◌, ◌*◌, ◌%◌, ◌^◌, ◌<◌, ◌≤◌, length, eqb, cond};
+ghost use Rattle.std.specs.Prelude.{◌≡◌, ◌*◌, ◌%◌, ◌<◌, ◌≤◌, length};
 ghost use Rattle.std.proofs.Math.Seq.{slice};
 ghost use Rattle.format.specs.Dwords.{dwords_of};
 ghost use Rattle.format.specs.Instructions as ins;
@@ -10,48 +10,35 @@ ghost use Rattle.stream.specs.Stream.{passes, measured, noted, Walking, Steps};
 
 use format::Refusal;
 use header::instruction_length;
-use instruction::Verdict;
+use instruction::Fault;
 use tokens::dwords;
 
-// What a stream needs; or why it is refused.
-#[derive(Drop)]
-pub enum Measured {
-    Fine {
-        instructions: u32,
-        operands: u32,
-        words: u32,
-    },
-    Refused(Refusal),
+// What a stream needs: rows for its instructions and for their operands, and words.
+#[derive(Clone, Copy)]
+pub struct Needs {
+    pub instructions: u32,
+    pub operands: u32,
+    pub words: u32,
 }
 
-// How far a walk over a stream has come, in dwords; what it has met; the first place of 14, or 0.
-#[derive(Drop)]
+// How far a walk over a stream has come, in dwords; what it has met; and the byte offset of the first instruction that
+// is not exact.
+#[derive(Clone, Copy)]
 pub struct Walk {
     pub at: usize,
     pub instructions: usize,
     pub operands: usize,
     pub words: usize,
-    pub late: usize,
+    pub late: Option<u32>,
 }
 
-// What comes of the next instruction: the walk past it, or a refusal at once.
-#[derive(Drop)]
-pub enum Step {
-    On(Walk),
-    Off(Refusal),
-}
-
-fn wide(x: u32) -> usize
-    ensures { result ≡ x }
-{
-    x as usize
-}
-
-fn narrow(x: usize) -> u32
-    requires { x < 2 ^ 32 }
-    ensures { result ≡ x }
-{
-    x as u32
+// A chunk whose stream is measured, under a ceiling, in model 5.1 or not.
+#[derive(Clone, Copy)]
+struct Chunk<'a> {
+    bytes: &'a [u8],
+    ceiling: u32,
+    model51: bool,
+    ghost small: { length (dwords_of bytes.now) ≤ 262_144 },
 }
 
 // The byte offset of an instruction.
@@ -59,15 +46,7 @@ fn place(at: usize) -> u32
     requires { at ≤ 262_144 }
     ensures { result ≡ 4 * at }
 {
-    narrow(at * 4)
-}
-
-// The place of the first 14, where one is met and one may have been met before.
-fn first(late: usize, at: usize) -> usize
-    requires { at ≤ 262_144 }
-    ensures { result ≡ cond (eqb late 0) (4 * at) late }
-{
-    if late == 0 { at * 4 } else { late }
+    (at * 4) as u32
 }
 
 // The walk past an instruction that is not exact, which ends at a place: it goes on there, and the first 14's place is kept.
@@ -77,82 +56,86 @@ fn noted(s: Walk, to: usize) -> Walk
 {
     Walk {
         at: to,
-        instructions: s.instructions,
-        operands: s.operands,
-        words: s.words,
-        late: first(s.late, s.at),
+        late: s.late.or(Some(place(s.at))),
+        ..s
     }
 }
 
-// Measures the instruction from one place to another.
-fn measure_part(chunk: &[u8], at: usize, end: usize, ceiling: u32, model51: bool) -> Verdict
-    requires { (at < end) × (end ≤ length (dwords_of chunk.now)) }
-    ensures { result ≡ verdict (ins.read ceiling model51 (slice at end (dwords_of chunk.now))) }
-{
-    let a = at * 4;
-    let b = end * 4;
-    instruction::measure(&chunk[a..b], ceiling, model51)
+impl<'a> Chunk<'a> {
+    // Measures the instruction from one place to another.
+    fn measure_part(&self, at: usize, end: usize) -> Result<instruction::Needs, Fault>
+        requires { (at < end) × (end ≤ length (dwords_of self.now.bytes.now)) }
+        ensures { result ≡ verdict (ins.read self.now.ceiling self.now.model51 (slice at end (dwords_of self.now.bytes.now))) }
+    {
+        let chunk = self.bytes;
+        let a = at * 4;
+        let b = end * 4;
+        instruction::measure(&chunk[a..b], self.ceiling, self.model51)
+    }
+
+    // Walks past the next instruction.
+    fn next(&self, s: Walk) -> Result<Walk, Refusal>
+        requires { (s.at < length (dwords_of self.now.bytes.now)) × Walking self.now.ceiling self.now.model51 (dwords_of self.now.bytes.now) s }
+        ensures { Steps self.now.ceiling self.now.model51 (dwords_of self.now.bytes.now) s.at result }
+    {
+        let n = instruction_length(self.bytes, s.at) as usize;
+        if n == 0 {
+            return Err(Refusal::ZeroLength { at: place(s.at) });
+        }
+        if dwords(self.bytes) - s.at < n {
+            return Err(Refusal::PastEnd { at: place(s.at) });
+        }
+        let end = s.at + n;
+        match self.measure_part(s.at, end) {
+            Ok(needs) => Ok(Walk {
+                at: end,
+                instructions: s.instructions + 1,
+                operands: s.operands + needs.rows,
+                words: s.words + needs.words,
+                late: s.late,
+            }),
+            Err(Fault::Miscounted) => Err(Refusal::OperandCount { at: place(s.at) }),
+            Err(Fault::Inexact) => Ok(noted(s, end)),
+        }
+    }
+
+    // What a walk to the end tells.
+    fn finish(&self, s: Walk) -> Result<Needs, Refusal>
+        requires { (length (dwords_of self.now.bytes.now) ≤ s.at) × Walking self.now.ceiling self.now.model51 (dwords_of self.now.bytes.now) s }
+        ensures { result ≡ measured (passes self.now.ceiling self.now.model51 (dwords_of self.now.bytes.now)) }
+    {
+        if let Some(at) = s.late {
+            return Err(Refusal::Layout { at });
+        }
+        Ok(Needs {
+            instructions: s.instructions as u32,
+            operands: s.operands as u32,
+            words: s.words as u32,
+        })
+    }
 }
 
-// Walks past the next instruction.
-fn next(chunk: &[u8], s: Walk, ceiling: u32, model51: bool) -> Step
-    requires { (s.at < length (dwords_of chunk.now)) × (length (dwords_of chunk.now) ≤ 262_144) × Walking ceiling model51 (dwords_of chunk.now) s }
-    ensures { Steps ceiling model51 (dwords_of chunk.now) s.at result }
-{
-    let n = wide(instruction_length(chunk, s.at));
-    if n == 0 {
-        return Step::Off(Refusal::ZeroLength { at: place(s.at) });
-    }
-    if dwords(chunk) - s.at < n {
-        return Step::Off(Refusal::PastEnd { at: place(s.at) });
-    }
-    let end = s.at + n;
-    match measure_part(chunk, s.at, end, ceiling, model51) {
-        Verdict::Fine { rows, words } => Step::On(Walk {
-            at: end,
-            instructions: s.instructions + 1,
-            operands: s.operands + rows,
-            words: s.words + words,
-            late: s.late,
-        }),
-        Verdict::Miscounted => Step::Off(Refusal::OperandCount { at: place(s.at) }),
-        Verdict::Inexact => Step::On(noted(s, end)),
-    }
-}
-
-// What a walk to the end tells.
-fn finish(chunk: &[u8], s: Walk, ceiling: u32, model51: bool) -> Measured
-    requires { (length (dwords_of chunk.now) ≤ s.at) × (length (dwords_of chunk.now) ≤ 262_144) × Walking ceiling model51 (dwords_of chunk.now) s }
-    ensures { result ≡ measured (passes ceiling model51 (dwords_of chunk.now)) }
-{
-    if s.late != 0 {
-        return Measured::Refused(Refusal::Layout { at: narrow(s.late) });
-    }
-    Measured::Fine {
-        instructions: narrow(s.instructions),
-        operands: narrow(s.operands),
-        words: narrow(s.words),
-    }
-}
-
-// Measures a chunk's stream, under a ceiling, in model 5.1 or not; it writes nothing.
-pub fn measure(chunk: &[u8], ceiling: u32, model51: bool) -> Measured
+// Measures a chunk's stream, under a ceiling, in model 5.1 or not; it writes nothing. Each step goes past an
+// instruction, by that instruction's own length.
+pub fn measure(chunk: &[u8], ceiling: u32, model51: bool) -> Result<Needs, Refusal>
     requires { (8 ≤ length chunk.now) × (length chunk.now % 4 ≡ 0) × (length chunk.now ≤ 1_048_576) }
     ensures { result ≡ measured (passes ceiling model51 (dwords_of chunk.now)) }
 {
+    let it = Chunk {
+        bytes: chunk,
+        ceiling,
+        model51,
+    };
     let n = dwords(chunk);
     let mut s = Walk {
         at: 2,
         instructions: 0,
         operands: 0,
         words: 0,
-        late: 0,
+        late: None,
     };
     while s.at < n {
-        match next(chunk, s, ceiling, model51) {
-            Step::On(t) => s = t,
-            Step::Off(r) => return Measured::Refused(r),
-        }
+        s = it.next(s)?;
     }
-    finish(chunk, s, ceiling, model51)
+    it.finish(s)
 }
