@@ -82,5 +82,5 @@ chunk_at n (suc k) xs zero d h = rw mul-zero
 chunk_at n (suc k) xs (suc i) d h = let e : n + n * i ≡ n * suc i = omega arith in chunk_at n k (drop n xs) i d (omega arith) ∙ ap (take n) (drop-drop (n * i) n xs ∙ ap (λ (j : ℕ). drop j xs) e)
 
 -- row r, as the code finds it
-pub its_row : (rs : List ℕ) (r : ℕ) {rows : List (List ℕ)} {q : List ℕ} → rows ≡ first_chunks 16 (length rs / 16) rs → r < length rs / 16 → ((d : List ℕ) → q ≡ get_or rows r d) → q ≡ w.row_at r rs
-its_row rs r e h f = f [] ∙ ap (λ (l : List (List ℕ)). get_or l r []) e ∙ chunk_at 16 (length rs / 16) rs r [] h
+pub its_row : (rs : List ℕ) (r : ℕ) {rows : List (List ℕ)} {q : List ℕ} → rows ≡ first_chunks 16 (length rs / 16) rs → r < length rs / 16 → q ≡ get_or rows r [] → q ≡ w.row_at r rs
+its_row rs r e h f = f ∙ ap (λ (l : List (List ℕ)). get_or l r []) e ∙ chunk_at 16 (length rs / 16) rs r [] h

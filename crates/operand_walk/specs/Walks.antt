@@ -1,10 +1,10 @@
 -- The rows that go a short way, and what is told of them.
-use Rattle.std.specs.Prelude.{◌≡◌, ℕ, suc, ◌+◌, ◌-◌, ◌*◌, ◌/◌, ◌%◌, ◌^◌, ◌<◌, ◌≤◌, List, [], ◌∷◌, length, drop, ◌≢◌, nat_lt, slice_index}
+use Rattle.std.specs.Prelude.{◌≡◌, ℕ, suc, ◌+◌, ◌-◌, ◌*◌, ◌/◌, ◌^◌, ◌<◌, ◌≤◌, List, [], ◌∷◌, length, drop, ◌≢◌, nat_lt, slice_index}
 use Rattle.format.specs.Rows.{placed}
 use Rattle.format.specs.Encoder.{at, extension_of}
 use Rattle.operand_deep.specs.Confirm.{confirm}
-use Rattle.operand_deep.specs.Walks.{walked, there}
-use Rattle.operand_deep.specs.declared.Walked.TheVariants.{Is}
+use Rattle.operand_deep.specs.Walks.{sized, walked, there, row_at}
+use Rattle.operand_walk.specs.declared.Ran.{Ran}
 
 -- ---- an operand that stands alone, by its row, which is in front
 -- its only row, with no rows for a second and a third index
@@ -42,7 +42,7 @@ pub record NoIndices (q : List ℕ) : Type 0 where
 pub record Lone (q : List ℕ) (w n : ℕ) : Type 0 where
   pub few : n ≤ 4
   pub size : at 15 q ≡ 1 + n + length (extension_of (at 3 q))
-  pub walks : (left : ℕ) (rs ws : List ℕ) (r : ℕ) → q ≡ drop (16 * r) rs → w + n ≤ length ws → Is 1 n (at 15 q) ≡ walked (there (confirm (suc left)) rs ws r w)
+  pub walks : (left : ℕ) (rs ws : List ℕ) (r : ℕ) → q ≡ row_at r rs → w + n ≤ length ws → sized 1 n (at 15 q) ≡ walked (there (confirm (suc left)) rs ws r w)
 
 -- n words, which stand at w, and y extensions
 pub record Stands (q : List ℕ) (w n y : ℕ) : Type 0 where
@@ -75,23 +75,16 @@ TwoOrThree d = (d ≢ 2) → d ≡ 3
 -- k operands from row r and word w of two pools on: their rows, the word behind them, and their dwords
 pub data Run (left : ℕ) (rs ws : List ℕ) (r w : ℕ) : ℕ → ℕ → ℕ → ℕ → Type 0 where
   empty : Run left rs ws r w 0 0 w 0
-  next : {k p v n b a : ℕ} → Run left rs ws r w k p v n → Is b a (at 15 (drop (16 * (r + p)) rs)) ≡ walked (there (confirm left) rs ws (r + p) v) → Run left rs ws r w (k + 1) (p + b) (v + a) (n + at 15 (drop (16 * (r + p)) rs))
+  next : {k p v n b a : ℕ} → Run left rs ws r w k p v n → sized b a (at 15 (drop (16 * (r + p)) rs)) ≡ walked (there (confirm left) rs ws (r + p) v) → Run left rs ws r w (k + 1) (p + b) (v + a) (n + at 15 (drop (16 * (r + p)) rs))
 
--- k operands, in all words that end at `end`; x tells how many of them have two rows, by 2 ^ 40, and their dwords that are neither words nor an operand's first
-pub record Ran (rs : List ℕ) (r w k end x : ℕ) : Type 0 where
+-- k operands, in all words that end at `end`; x tells how many of them have two rows, and their dwords that are neither words nor an operand's first
+pub record IsRun (rs : List ℕ) (r w k end : ℕ) (x : Ran) : Type 0 where
   pub past : ℕ
   pub words_from : w ≤ past
   pub words_to : past ≤ end
-  pub few : x % 2 ^ 40 ≤ 2 * k
-  pub two_rows : x / 2 ^ 40 ≤ k
-  pub runs : (left : ℕ) (ws : List ℕ) → length ws ≡ end → Run (suc (suc left)) rs ws r w k (k + x / 2 ^ 40) past (k + (past - w) + x % 2 ^ 40)
-
--- rows from one place on to another, sixteen at most
-pub record Span (first past size : ℕ) : Type 0 where
-  pub row_starts : first ≡ 16 * (first / 16)
-  pub rows_end : past ≡ first + 16 * ((past - first) / 16)
-  pub few : (past - first) / 16 ≤ 16
-  pub within : past ≤ size
+  pub few : x.dwords ≤ 2 * k
+  pub two_rows : x.rows ≤ k
+  pub runs : (left : ℕ) (ws : List ℕ) → length ws ≡ end → Run (suc (suc left)) rs ws r w k (k + x.rows) past (k + (past - w) + x.dwords)
 
 -- ---- an operand of two rows, whose last index is the operand of the second row
 -- o dwords before the operand of an index: its representation is 2 or 3, times a unit, and x tells the place of the dword, if there is one
@@ -113,7 +106,7 @@ pub record Leading (q : List ℕ) (n : ℕ) : Type 0 where
   pub rows : at 14 q ≡ 2
   pub size : at 15 q ≡ n + length (extension_of (at 3 q))
 
--- row r and the next, with n words, which stand at w
-pub record Pointed (q : List ℕ) (r w n : ℕ) : Type 0 where
+-- row r and the next, c, with n words, which stand at w
+pub record Pointed (q c : List ℕ) (r w n : ℕ) : Type 0 where
   pub size : at 15 q ≡ 2 + n + length (extension_of (at 3 q))
-  pub walks : (left : ℕ) (rs ws : List ℕ) → q ≡ drop (16 * r) rs → w + n ≤ length ws → Is 2 n (at 15 q) ≡ walked (there (confirm (suc (suc left))) rs ws r w)
+  pub walks : (left : ℕ) (rs ws : List ℕ) → q ≡ row_at r rs → c ≡ row_at (r + 1) rs → w + n ≤ length ws → sized 2 n (at 15 q) ≡ walked (there (confirm (suc (suc left))) rs ws r w)

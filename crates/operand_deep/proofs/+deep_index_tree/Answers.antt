@@ -1,4 +1,4 @@
-use Rattle.std.proofs.Common.{rules, arith, ◌∙◌, sym, ◌-◌, ◌<◌, ◌/◌, length}
+use Rattle.std.proofs.Common.{[], rules, arith, ◌∙◌, sym, ◌-◌, ◌<◌, ◌/◌, length}
 use Rattle.std.proofs.lemmas.Grind.{common_steps}
 use Rattle.operand_deep.specs.Confirm.{confirm, confirm_index}
 use Rattle.operand_deep.proofs.Fields.{its_row}
@@ -19,7 +19,7 @@ pub deep-returns-in_err-guess : goal.deep-returns-in_err-guess
 deep-returns-in_err-guess t c =
     let a = c.args in
     let l : a.row < length a.operands.now / 16 = omega (arith, c.as_chunks.ensures.front_len, c.in_ok-numbers.ensures.lookup.3.0) in
-    c.from_residual-in_err-guess.ensures ∙ no_guess a.left a.operands.now a.words.now a.row a.word c.if-left-eq0.false l (its_row a.operands.now a.row c.as_chunks.ensures.front l c.in_ok-numbers.ensures.lookup.3.1) c.in_err-guess.ensures
+    c.from_residual-in_err-guess.ensures ∙ no_guess a.left a.operands.now a.words.now a.row a.word c.if-left-eq0.false l (its_row a.operands.now a.row c.as_chunks.ensures.front l (c.in_ok-numbers.ensures.lookup.3.1 [])) c.in_err-guess.ensures
 
 pub deep-leaf-requires : goal.deep-leaf-requires
 deep-leaf-requires t c = omega (arith, c.as_chunks.ensures.front_len, c.in_ok-numbers.ensures.lookup.3.0)
@@ -28,7 +28,7 @@ pub deep-returns-then-immediate : goal.deep-returns-then-immediate
 deep-returns-then-immediate t c =
     let a = c.args in
     let l : a.row < length a.operands.now / 16 = omega (arith, c.as_chunks.ensures.front_len, c.in_ok-numbers.ensures.lookup.3.0) in
-    rw (by_guess a.left a.operands.now a.words.now a.row a.word c.if-left-eq0.false l (its_row a.operands.now a.row c.as_chunks.ensures.front l c.in_ok-numbers.ensures.lookup.3.1) c.in_ok-guess.ensures, sym c.immediate.ensures ∙ c.if-immediate.true) c.leaf.ensures
+    rw (by_guess a.left a.operands.now a.words.now a.row a.word c.if-left-eq0.false l (its_row a.operands.now a.row c.as_chunks.ensures.front l (c.in_ok-numbers.ensures.lookup.3.1 [])) c.in_ok-guess.ensures, sym c.immediate.ensures ∙ c.if-immediate.true) c.leaf.ensures
 
 pub deep-tree-requires : goal.deep-tree-requires
 deep-tree-requires t c = (omega arith, (omega (arith, c.if-left-eq0.false), omega (arith, c.as_chunks.ensures.front_len, c.in_ok-numbers.ensures.lookup.3.0)))
@@ -37,7 +37,7 @@ pub deep-returns : goal.deep-returns
 deep-returns t c =
     let a = c.args in
     let l : a.row < length a.operands.now / 16 = omega (arith, c.as_chunks.ensures.front_len, c.in_ok-numbers.ensures.lookup.3.0) in
-    rw (by_guess a.left a.operands.now a.words.now a.row a.word c.if-left-eq0.false l (its_row a.operands.now a.row c.as_chunks.ensures.front l c.in_ok-numbers.ensures.lookup.3.1) c.in_ok-guess.ensures, sym c.immediate.ensures ∙ c.if-immediate.false) c.tree.ensures
+    rw (by_guess a.left a.operands.now a.words.now a.row a.word c.if-left-eq0.false l (its_row a.operands.now a.row c.as_chunks.ensures.front l (c.in_ok-numbers.ensures.lookup.3.1 [])) c.in_ok-guess.ensures, sym c.immediate.ensures ∙ c.if-immediate.false) c.tree.ensures
 
 pub index-returns-then-not-known : goal.index-returns-then-not-known
 unfolding confirm_index

@@ -1,14 +1,12 @@
-use Rattle.std.proofs.Common.{arith}
-use Rattle.format.proofs.Dwords.{impossible}
-use Rattle.operand_deep.proofs.Walks.{no_row}
+use Rattle.std.proofs.Common.{arith, refl}
 use Rattle.operand_walk.proofs.Runs.{one_walks}
 use Rattle.operand_walk.proofs.walk.Goals as goal
 
-pub returns-then-operands-row : goal.returns-then-operands-row
-returns-then-operands-row c = no_row c.args.left c.args.operands.now c.args.words.now c.args.row c.args.word (λ z. impossible (omega (arith, c.if-left-lt2.false, z))) c.if-operands-row.true
-
 pub overflow_sub-result : goal.overflow_sub-result
-overflow_sub-result c = omega (arith, (one_walks c.args.left c.args.operands.now c.args.words.now c.args.row c.args.word _ c.if-left-lt2.false c.if-n-ne0.true c.run-n.ensures c.wide-dwords.ensures.value).0)
+overflow_sub-result c = let a = c.args in omega (arith, one_walks a.left a.operands.now a.words.now a.row a.word c.if-left-ge2.true c.in-Some.ensures refl)
 
-pub returns-then-n-ne0 : goal.returns-then-n-ne0
-returns-then-n-ne0 c = (one_walks c.args.left c.args.operands.now c.args.words.now c.args.row c.args.word _ c.if-left-lt2.false c.if-n-ne0.true c.run-n.ensures c.wide-dwords.ensures.value).1
+pub overflow_sub-result-in-Some : goal.overflow_sub-result-in-Some
+overflow_sub-result-in-Some c = let a = c.args in omega (arith, one_walks a.left a.operands.now a.words.now a.row a.word c.if-left-ge2.true c.in-Some.ensures refl)
+
+pub returns-in-Some : goal.returns-in-Some
+returns-in-Some c = let a = c.args in (one_walks a.left a.operands.now a.words.now a.row a.word c.if-left-ge2.true c.in-Some.ensures refl).1
