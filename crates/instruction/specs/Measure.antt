@@ -44,9 +44,13 @@ abbrev pub body_of : Sum → Option Body
 body_of off = None
 body_of (sum r w e) = Some (record { rows = r; words = w; exact = e })
 
--- what measuring answers of an instruction with the token t, in either model
+-- what measuring answers of an instruction with the token t, by its layout
+abbrev pub by_layout : Bool → ℕ → List ℕ → Result Needs Fault
+by_layout m t ds = verdict (judged (layout (code t)) (split m (layout (code t)) ds))
+
+-- and in either model
 abbrev pub Judged : ℕ → List ℕ → Result Needs Fault → Type 0
-Judged t ds r = (m : Bool) → r ≡ verdict (judged (layout (code t)) (split m (layout (code t)) ds))
+Judged t ds r = (m : Bool) → r ≡ by_layout m t ds
 
 -- what follows the token t before the parts of its instruction ends at a place, and it and the token are exact
 pub record Begins (t : ℕ) (ds : List ℕ) (at : ℕ) : Type 0 where
@@ -70,4 +74,4 @@ pub record Behind (k : ℕ) (ds : List ℕ) (at end : ℕ) : Type 0 where
 -- an instruction of the token t and the shape x is fine if it has n dwords, in the model
 pub record Quick (m : Bool) (t : ℕ) (x : Shape) (ds : List ℕ) (n : ℕ) : Type 0 where
   pub fits : n ≡ length ds → 1 + x.operands ≤ n
-  pub fine : n ≡ length ds → fine x.operands (n - 1 - x.operands) ≡ verdict (judged (layout (code t)) (split m (layout (code t)) ds))
+  pub fine : n ≡ length ds → fine x.operands (n - 1 - x.operands) ≡ by_layout m t ds

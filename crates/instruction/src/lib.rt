@@ -13,7 +13,7 @@ ghost use Rattle.format.specs.Operands as op;
 ghost use Rattle.operand.specs.Measures.{measured};
 ghost use Rattle.layouts.specs.Shapes.{Sound, Laid, meant, items_of};
 ghost use Rattle.instruction_fields.specs.Fields.{sum_of, Declared};
-ghost use Rattle.instruction.specs.Measure.{Run, body_of, fine, verdict, Judged, Begins, Begun, surplus, Behind, Quick};
+ghost use Rattle.instruction.specs.Measure.{Run, body_of, verdict, by_layout, Judged, Begins, Begun, surplus, Behind, Quick};
 
 use instruction_fields::{
     bare, ends, exact_head, extra, head, item_count, past_dwords, plain, rising, small_at,
@@ -36,6 +36,16 @@ pub struct Needs {
 pub enum Fault {
     Miscounted,
     Inexact,
+}
+
+// An instruction: its own dwords, its token, which is the first of them, and whether it is of model 5.1.
+#[derive(Clone, Copy)]
+struct Instruction<'a> {
+    part: &'a [u8],
+    token: u32,
+    model51: bool,
+    ghost some: { 0 < length (dwords_of part.now) },
+    ghost first: { token ≡ get_or (dwords_of part.now) 0 0 },
 }
 
 // Operands one after the other: what they need, the place behind them and whether they are exact.
@@ -89,23 +99,6 @@ fn operands_of(part: &[u8], from: usize, count: u32) -> Option<Operands>
     })
 }
 
-// Measures the parts of an instruction, from a place on to its end; none if they do not end with it.
-fn parts_of(part: &[u8], at: usize, s: Shape, model51: bool) -> Option<Body>
-    requires { (at ≤ length (dwords_of part.now)) × Sound s }
-    ensures { result ≡ body_of (sum_of model51 (items_of s) (drop at (dwords_of part.now))) }
-{
-    let from = past_dwords(part, at, s.before)?;
-    let operands = operands_of(part, from, s.operands)?;
-    if !ends(part, operands.end, s, model51) {
-        return None;
-    }
-    Some(Body {
-        rows: operands.rows,
-        words: from - at + operands.words + (dwords(part) - operands.end),
-        exact: operands.exact,
-    })
-}
-
 // Why an instruction is refused whose dwords are not those of its layout: by 13 if it has a count, above 0; by 14 otherwise.
 fn fault_of(s: Shape) -> Fault
     requires { Sound s }
@@ -116,26 +109,6 @@ fn fault_of(s: Shape) -> Fault
     } else {
         Fault::Inexact
     }
-}
-
-// Measures an instruction by its shape.
-fn measure_shaped(part: &[u8], s: Shape, t: u32, model51: bool) -> Result<Needs, Fault>
-    requires { (0 < length (dwords_of part.now)) × (t ≡ get_or (dwords_of part.now) 0 0) × Laid (code t) s }
-    ensures { result ≡ verdict (ins.judged (layout (code t)) (ins.split model51 (layout (code t)) (dwords_of part.now))) }
-{
-    let Some(end) = head(part, s, t) else {
-        return Err(fault_of(s));
-    };
-    let Some(body) = parts_of(part, end, s, model51) else {
-        return Err(fault_of(s));
-    };
-    if !body.exact || !exact_head(part, s, t, end) {
-        return Err(Fault::Inexact);
-    }
-    Ok(Needs {
-        rows: body.rows,
-        words: body.words,
-    })
 }
 
 // Whether an operand's dword is exact, has no representations and no immediates, and one extension follows it, which is exact.
@@ -226,23 +199,6 @@ fn plain_operands(part: &[u8], from: usize, count: u32) -> Option<Operands>
     })
 }
 
-// Measures an instruction of n operands that stand from a place on, behind a head that is exact.
-fn measure_plain(part: &[u8], from: usize, n: u32) -> Result<Needs, Fault>
-    requires { (0 < length (dwords_of part.now)) × (operand_count (code (get_or (dwords_of part.now) 0 0)) ≡ some n) × Begins (get_or (dwords_of part.now) 0 0) (dwords_of part.now) from }
-    ensures { Judged (get_or (dwords_of part.now) 0 0) (dwords_of part.now) result }
-{
-    let Some(operands) = plain_operands(part, from, n) else {
-        return Err(Fault::Miscounted);
-    };
-    if !operands.exact {
-        return Err(Fault::Inexact);
-    }
-    Ok(Needs {
-        rows: operands.rows,
-        words: operands.words + (dwords(part) - operands.end),
-    })
-}
-
 // The place behind a usual operand, if there is to be one; none if it is not usual.
 fn past_usual(part: &[u8], at: usize, operands: u32) -> Option<usize>
     requires { (at ≤ 4) × (operands ≤ 1) }
@@ -255,43 +211,6 @@ fn past_usual(part: &[u8], at: usize, operands: u32) -> Option<usize>
         return None;
     }
     Some(at + usual_length(dword(part, at))?)
-}
-
-// How many dwords a declaration has, if it has a bare token, no list and at most a usual operand, as most have.
-fn quick(part: &[u8], s: Shape, t: u32, model51: bool) -> Option<usize>
-    requires { (0 < length (dwords_of part.now)) × (t ≡ get_or (dwords_of part.now) 0 0) × Declared (code t) s }
-    ensures { IfSome result (λ n. Quick model51 t s (dwords_of part.now) n) }
-{
-    if s.list != 0 {
-        return None;
-    }
-    if !bare(s, t) {
-        return None;
-    }
-    let end = past_usual(part, 1 + s.before as usize, s.operands)?;
-    if !small_at(part, end, s.small) {
-        return None;
-    }
-    Some(end + (s.small + s.after + extra(s, model51)) as usize)
-}
-
-// Measures an instruction whose code has no count.
-fn measure_uncounted(part: &[u8], t: u32, model51: bool) -> Result<Needs, Fault>
-    requires { (0 < length (dwords_of part.now)) × (t ≡ get_or (dwords_of part.now) 0 0) × (operand_count (code t) ≡ none) }
-    ensures { result ≡ verdict (ins.judged (layout (code t)) (ins.split model51 (layout (code t)) (dwords_of part.now))) }
-{
-    if let Some(d) = declaration(t % 2048) {
-        let s = declared(d);
-        let n = dwords(part);
-        if quick(part, s, t, model51) == Some(n) {
-            let rows = s.operands as usize;
-            return Ok(Needs {
-                rows,
-                words: n - 1 - rows,
-            });
-        }
-    }
-    measure_shaped(part, uncounted_layout(t % 2048), t, model51)
 }
 
 // The place behind the chain of a token that is plain but for bit 31, as texture instructions have it, if the chain is exact.
@@ -309,17 +228,106 @@ fn chained_head(part: &[u8], t: u32) -> Option<usize>
     rising(part, 1, end).then_some(end)
 }
 
-// The place behind the head of a code with a count, if it is plain or chained and exact; the others are left to the
-// general way. Most tokens are plain; the part is lent afresh for the others, which leaves the callers' in registers.
-fn plain_head(part: &[u8], t: u32) -> Option<usize>
-    requires { 0 < length (dwords_of part.now) }
-    ensures { IfSome result (λ at. Begun t (dwords_of part.now) at) }
-{
-    if plain(t) {
-        return Some(1);
+impl<'a> Instruction<'a> {
+    // Measures its parts, from a place on to its end; none if they do not end with it.
+    fn parts_of(self, at: usize, s: Shape) -> Option<Body>
+        requires { (at ≤ length (dwords_of self.part.now)) × Sound s }
+        ensures { result ≡ body_of (sum_of self.entry.model51 (items_of s) (drop at (dwords_of self.entry.part.now))) }
+    {
+        let from = past_dwords(self.part, at, s.before)?;
+        let operands = operands_of(self.part, from, s.operands)?;
+        if !ends(self.part, operands.end, s, self.model51) {
+            return None;
+        }
+        Some(Body {
+            rows: operands.rows,
+            words: from - at + operands.words + (dwords(self.part) - operands.end),
+            exact: operands.exact,
+        })
     }
-    let p = &part[0..part.len()];
-    chained_head(p, t)
+
+    // Measures it by its shape.
+    fn measure_shaped(self, s: Shape) -> Result<Needs, Fault>
+        requires { Laid (code self.token) s }
+        ensures { result ≡ by_layout self.entry.model51 self.entry.token (dwords_of self.entry.part.now) }
+    {
+        let Some(end) = head(self.part, s, self.token) else {
+            return Err(fault_of(s));
+        };
+        let Some(body) = self.parts_of(end, s) else {
+            return Err(fault_of(s));
+        };
+        if !body.exact || !exact_head(self.part, s, self.token, end) {
+            return Err(Fault::Inexact);
+        }
+        Ok(Needs {
+            rows: body.rows,
+            words: body.words,
+        })
+    }
+
+    // Measures its n operands, which stand from a place on, behind a head that is exact, and its tail.
+    fn measure_plain(self, from: usize, n: u32) -> Result<Needs, Fault>
+        requires { (operand_count (code self.token) ≡ some n) × Begins self.token (dwords_of self.part.now) from }
+        ensures { Judged self.entry.token (dwords_of self.entry.part.now) result }
+    {
+        let Some(operands) = plain_operands(self.part, from, n) else {
+            return Err(Fault::Miscounted);
+        };
+        if !operands.exact {
+            return Err(Fault::Inexact);
+        }
+        Ok(Needs {
+            rows: operands.rows,
+            words: operands.words + (dwords(self.part) - operands.end),
+        })
+    }
+
+    // How many dwords it has as a declaration of a bare token, without a list and with at most a usual operand, as most have.
+    fn quick(self, s: Shape) -> Option<usize>
+        requires { Declared (code self.token) s }
+        ensures { IfSome result (λ n. Quick self.entry.model51 self.entry.token s (dwords_of self.entry.part.now) n) }
+    {
+        if s.list != 0 || !bare(s, self.token) {
+            return None;
+        }
+        let end = past_usual(self.part, 1 + s.before as usize, s.operands)?;
+        if !small_at(self.part, end, s.small) {
+            return None;
+        }
+        Some(end + (s.small + s.after + extra(s, self.model51)) as usize)
+    }
+
+    // Measures it, if its code has no count.
+    fn measure_uncounted(self) -> Result<Needs, Fault>
+        requires { operand_count (code self.token) ≡ none }
+        ensures { result ≡ by_layout self.entry.model51 self.entry.token (dwords_of self.entry.part.now) }
+    {
+        if let Some(d) = declaration(self.token % 2048) {
+            let s = declared(d);
+            let n = dwords(self.part);
+            if self.quick(s) == Some(n) {
+                let rows = s.operands as usize;
+                return Ok(Needs {
+                    rows,
+                    words: n - 1 - rows,
+                });
+            }
+        }
+        self.measure_shaped(uncounted_layout(self.token % 2048))
+    }
+
+    // The place behind its head, if its code has a count and the head is plain or chained and exact; the others are left
+    // to the general way. Most tokens are plain; the part is lent afresh for the others, which leaves the callers' in registers.
+    fn plain_head(self) -> Option<usize>
+        ensures { IfSome result (λ at. Begun self.entry.token (dwords_of self.entry.part.now) at) }
+    {
+        if plain(self.token) {
+            return Some(1);
+        }
+        let p = &self.part[0..self.part.len()];
+        chained_head(p, self.token)
+    }
 }
 
 // Measures an instruction: its own dwords, under a ceiling, in model 5.1 or not.
@@ -327,19 +335,24 @@ pub fn measure(part: &[u8], ceiling: u32, model51: bool) -> Result<Needs, Fault>
     requires { 0 < length (dwords_of part.now) }
     ensures { result ≡ verdict (ins.read ceiling model51 (dwords_of part.now)) }
 {
-    let t = dword(part, 0);
-    let code = t % 2048;
+    let token = dword(part, 0);
+    let code = token % 2048;
     if ceiling <= code {
         return Ok(Needs {
             rows: 0,
             words: dwords(part),
         });
     }
-    let Some(n) = operand_count(code) else {
-        return measure_uncounted(part, t, model51);
+    let it = Instruction {
+        part,
+        token,
+        model51,
     };
-    if let Some(from) = plain_head(part, t) {
-        return measure_plain(part, from, n);
+    let Some(n) = operand_count(code) else {
+        return it.measure_uncounted();
+    };
+    if let Some(from) = it.plain_head() {
+        return it.measure_plain(from, n);
     }
-    measure_shaped(part, counted_layout(code, n), t, model51)
+    it.measure_shaped(counted_layout(code, n))
 }

@@ -1,6 +1,6 @@
 use mathlib.Core.Path.{◌∙◌}
 use Rattle.instruction.proofs.Shaped.{before_off, operands_off, rest_off, body_read}
-use Rattle.instruction.proofs.parts_of.Goals as goal
+use Rattle.instruction.proofs.Instruction.parts_of.Goals as goal
 
 pub returns-in_err-from : goal.returns-in_err-from
 returns-in_err-from c = c.from_residual.ensures ∙ before_off _ _ _ _ c.in_err-from.ensures.passes
