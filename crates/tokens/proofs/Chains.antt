@@ -59,26 +59,9 @@ module _ (ds : List ℕ) (from to : ℕ) where
   none e = ap (λ (k : ℕ). slice k to ds) e ∙ slice_empty to ds
 
   module _ (h : from ≤ to) (k : to ≤ length ds) where
-    pub no_modifiers : from ≡ to → 0 ≡ modifiers (slice from to ds)
-    unfolding modifiers
-    no_modifiers e = rw (none e)
-
     pub some_modifiers : (from ≡ to → ⊥) → (x m : ℕ) → x ≡ get_or ds from 0 → m ≡ modifiers (x ∷ []) → m ≡ modifiers (slice from to ds)
     unfolding modifiers
     some_modifiers e x m ex em = rw (slice-cons from to ds 0 (omega arith) k, ← ex) em
-
-    pub no_extensions : from ≡ to → true ≡ exact_extension (slice from to ds)
-    unfolding exact_extension
-    no_extensions e = rw (none e)
-
-    rest : (l : List ℕ) → length l ≡ 0 → l ≡ []
-    rest [] z = refl
-    rest (x ∷ l) z = absurd (omega arith)
-
-    pub one_extension : to - from ≡ 1 → (x : ℕ) (b : Bool) → x ≡ get_or ds from 0 → b ≡ exact_extension (x ∷ []) → b ≡ exact_extension (slice from to ds)
-    one_extension e x b ex eb =
-        let q : length (slice (suc from) to ds) ≡ 0 = length-slice (suc from) to ds k ∙ omega arith in
-        eb ∙ ap exact_extension (sym (slice-cons from to ds 0 (omega arith) k ∙ (λ i. sym ex i ∷ rest (slice (suc from) to ds) q i)))
 
     several : (x : ℕ) (l : List ℕ) → (length l ≡ 0 → ⊥) → false ≡ exact_extension (x ∷ l)
     unfolding exact_extension

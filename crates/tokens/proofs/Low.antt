@@ -1,23 +1,23 @@
 -- The low twelve bits of an operand's dword, form and selection: computed once over all of their values.
 use Prim.Native.Nat.{ℕ, zero, suc, ◌+◌, ◌*◌, ◌/◌, ◌%◌, ◌^◌, ◌<◌}
 use mathlib.Core.Path.{◌≡◌, refl, sym, ap, ◌∙◌}
-use mathlib.Core.List.{[], ◌∷◌, map}
-use mathlib.Core.Bool.{Bool, true, false, cond, ◌&&◌}
+use mathlib.Core.List.{map}
+use mathlib.Core.Bool.{Bool, true, false, ◌&&◌}
 use native.Mathlib.Nat.{mod-add-div}
 use native.Mathlib.Omega.{arith}
-use lib.ListN.{get_or, get_or-eq_default}
+use lib.ListN.{get_or}
 use lib.Pow.{field}
 use lib.Dec.{eqb, ltb}
 use lib.Bits.{bit_and}
-use borrow.Author.Tests.{eqb-true, eqb-false, eq-eqb, ne_eqb, ltb-true, ltb-false}
+use borrow.Author.Tests.{eqb-true, eqb-false, eq-eqb, ne_eqb, ltb-true}
 use Rattle.format.specs.Dwords.{bits, bits_from}
 use Rattle.format.specs.Counts.{numbers}
 use Rattle.format.specs.Operands.{form, selection, type_of, dimension, reprs, exact_dword}
 use Rattle.format.proofs.Dwords.{bits_above, both}
 use Rattle.format.proofs.Each.{below}
-use Rattle.tokens.specs.declared.TheConstants.{FORMS, SELECTED}
+use Rattle.tokens.specs.declared.TheConstants.{FORMS}
 use Rattle.tokens.specs.Low.{allowed_bits}
-use Rattle.tokens.proofs.Fields.{chosen, mask, low, reprs_small}
+use Rattle.tokens.proofs.Fields.{chosen, low, reprs_small}
 
 -- the form, by the lowest four bits
 forms : map {B = ℕ} (λ k. get_or FORMS k 0) (numbers 16 0) ≡ map form (numbers 16 0)
@@ -32,28 +32,6 @@ pub form_entry : (t : ℕ) → get_or FORMS (t % 16) 0 ≡ form t
 form_entry t =
     let a : t % 16 / 2 ^ 2 ≡ t / 2 ^ 2 % 2 ^ 2 = field t 2 2 in
     below _ _ 16 forms (t % 16) (omega arith) ∙ form_low (t % 16) t (omega arith) (omega (arith, a))
-
--- the bits of a form's selection
-masks : map {B = ℕ} (λ f. get_or SELECTED f 0) (numbers 5 0) ≡ map mask (numbers 5 0)
-unfolding numbers
-masks = refl
-
-pub mask_entry : (f : ℕ) → f < 5 → get_or SELECTED f 0 ≡ mask f
-mask_entry f h = below _ _ 5 masks f h
-
-pub allowed_none : (k : ℕ) → (k ≡ 1 → ⊥) → (k ≡ 2 → ⊥) → (k ≡ 6 → ⊥) → (k ≡ 10 → ⊥) → 0 ≡ allowed_bits k
-unfolding numbers
-allowed_none k a b c d = go (ltb k 11) refl
-  where
-    other : ℕ → ℕ
-    other k = cond (eqb k 1) 0 (cond (eqb k 2) 0 (cond (eqb k 6) 0 (cond (eqb k 10) 0 (allowed_bits k))))
-
-    tried : map other (numbers 11 0) ≡ map (λ k. 0) (numbers 11 0)
-    tried = refl
-
-    go : (y : Bool) → ltb k 11 ≡ y → 0 ≡ allowed_bits k
-    go true e = sym (rw (ne_eqb k 1 a, ne_eqb k 2 b, ne_eqb k 6 c, ne_eqb k 10 d) at (below other (λ k. 0) 11 tried k (ltb-true k 11 e)))
-    go false e = sym (get_or-eq_default (0 ∷ 0x001 ∷ 0x0F2 ∷ 0 ∷ 0 ∷ 0 ∷ 0xFF6 ∷ 0 ∷ 0 ∷ 0 ∷ 0x03A ∷ []) 0 (ltb-false k 11 e))
 
 -- ---- all twelve
 abbrev made : ℕ → ℕ

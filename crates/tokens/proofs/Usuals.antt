@@ -7,15 +7,14 @@ use native.Mathlib.Omega.{arith}
 use lib.ListN.{get_or}
 use lib.Dec.{eqb, ltb}
 use lib.Bits.{bit_and, and_block, and_mask, and_zero_r, and_le_l}
-use borrow.Author.Tests.{eqb-true, eqb-false, eq-eqb, ne_eqb, ltb-true, ltb-false, lt-ltb, le-ltb}
-use Rattle.std.specs.Prelude.{Some, None}
+use borrow.Author.Tests.{eqb-true, eqb-false, eq-eqb, ne_eqb, ltb-true, ltb-false}
 use Rattle.format.specs.Counts.{numbers}
 use Rattle.format.specs.Dwords.{bits_from}
-use Rattle.format.specs.Operands.{dimension, form, immediate, immediates, reprs, exact_dword}
+use Rattle.format.specs.Operands.{dimension, form, immediates, reprs, exact_dword}
 use Rattle.format.proofs.Each.{below}
 use Rattle.tokens.specs.declared.TheConstants.{STRAYS}
 use Rattle.tokens.specs.Low.{allowed_bits}
-use Rattle.tokens.specs.Usuals.{stray_bits, usual_length}
+use Rattle.tokens.specs.Usuals.{stray_bits}
 use Rattle.tokens.proofs.Fields.{counted, form_small}
 use Rattle.tokens.proofs.Low.{exact_by_parts}
 
@@ -126,29 +125,6 @@ module _ (t : ℕ) (h : t < 2 ^ 32) where
           let l = eqb-false (t / 0x100000) 1 k in
           let s : bit_and u (low u) < 4096 = omega (arith, and_le_l u (low u)) in
           ne_eqb (t / 2 ^ 20 * 2 ^ 20 + bit_and u (low u)) 0x100000 (λ z. omega arith)
-
-pub stray_fits : (t m : ℕ) → m ≡ stray_bits (t % 16) → m < 0xFFC0_1000
-unfolding numbers
-stray_fits t m e = rw e (ltb-true _ _ (below (λ k. ltb (stray_bits k) 0xFFC0_1000) (λ k. true) 16 refl (t % 16) (omega arith)))
-
--- ---- how long its operand is
-module _ (t : ℕ) (b : Bool) (eb : b ≡ (ltb t 0x400000 && exact_dword t)) where
-  pub length_other : b ≡ false → None ≡ usual_length t
-  unfolding usual_length
-  length_other e = rw (sym eb ∙ e)
-
-  pub length_indices : b ≡ true → (i : Bool) → i ≡ immediate t → i ≡ false → Some (1 + t / 0x100000) ≡ usual_length t
-  unfolding usual_length
-  length_indices e i ei ni = rw (sym eb ∙ e, sym ei ∙ ni)
-
-  module _ (e : b ≡ true) (i : Bool) (ei : i ≡ immediate t) (yi : i ≡ true) where
-    pub length_immediates : t < 0x100000 → (n : ℕ) → n ≡ immediates t → Some (1 + n) ≡ usual_length t
-    unfolding usual_length
-    length_immediates l n en = rw (sym eb ∙ e, sym ei ∙ yi, lt-ltb t 0x100000 l, en)
-
-    pub length_malformed : 0x100000 ≤ t → None ≡ usual_length t
-    unfolding usual_length
-    length_malformed l = rw (sym eb ∙ e, sym ei ∙ yi, le-ltb t 0x100000 l)
 
 pub immediates_few : (t : ℕ) → immediates t ≤ 4
 unfolding immediates

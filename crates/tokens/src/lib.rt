@@ -11,6 +11,7 @@ ghost use Rattle.tokens.specs.Low.{allowed_bits};
 ghost use Rattle.tokens.specs.Usuals.{stray_bits, usual_length};
 
 // How many dwords a part has.
+#[tactic(auto, using(format::proofs::Dwords::length_dwords))]
 pub fn dwords(part: &[u8]) -> usize
     ensures { result ≡ length (dwords_of part.now) }
 {
@@ -18,6 +19,7 @@ pub fn dwords(part: &[u8]) -> usize
 }
 
 // The dword at a place.
+#[tactic(auto, using(format::proofs::Dwords::length_dwords))]
 pub fn dword(part: &[u8], k: usize) -> u32
     requires { k < length (dwords_of part.now) }
     ensures { result ≡ get_or (dwords_of part.now) k 0 }
@@ -63,6 +65,7 @@ impl DwordList for &[u32] {
 }
 
 // Bit 31: another dword follows.
+#[tactic(auto, unfolding(format::specs::Dwords::follows))]
 pub fn follows(t: u32) -> bool
     ensures { result ≡ d.follows t }
 {
@@ -82,6 +85,7 @@ pub fn dimension(t: u32) -> u32
 }
 
 // Types 4 and 5 hold immediate dwords.
+#[tactic(auto, unfolding(format::specs::Operands::immediate))]
 pub fn immediate(t: u32) -> bool
     ensures { result ≡ op.immediate t }
 {
@@ -93,6 +97,7 @@ pub fn immediate(t: u32) -> bool
 static FORMS: [u32; 16] = [0, 1, 2, 0, 0, 1, 3, 0, 0, 1, 4, 0, 0, 1, 0, 0];
 
 // 0 none, 1 one, 2 mask, 3 swizzle, 4 scalar: the number that rows hold.
+#[tactic(auto, using(crate::proofs::Low::form_entry))]
 pub fn form(t: u32) -> u32
     ensures { result ≡ op.form t }
 {
@@ -102,6 +107,7 @@ pub fn form(t: u32) -> u32
 // The bits of each form's selection, all set.
 static SELECTED: [u32; 5] = [0, 0, 0x0F, 0xFF, 0x03];
 
+#[tactic(auto, using(crate::proofs::Fields::form_small), unfolding(format::specs::Operands::selection))]
 pub fn selection(t: u32) -> u32
     ensures { result ≡ op.selection t }
 {
@@ -109,6 +115,7 @@ pub fn selection(t: u32) -> u32
 }
 
 // How many immediate dwords an operand of an immediate type has.
+#[tactic(auto, unfolding(format::specs::Operands::immediates))]
 pub fn immediates(t: u32) -> usize
     ensures { result ≡ op.immediates t }
 {
@@ -132,6 +139,7 @@ fn used(d: u32) -> u32
     }
 }
 
+#[tactic(auto, using(crate::proofs::Fields::reprs_is))]
 pub fn reprs(t: u32) -> u32
     ensures { result ≡ op.reprs t }
 {
@@ -139,6 +147,7 @@ pub fn reprs(t: u32) -> u32
 }
 
 // The representation of index i, 8 past the dimension.
+#[tactic(auto, unfolding(format::specs::Operands::repr))]
 pub fn repr(i: u32, t: u32) -> u32
     requires { i < 3 }
     ensures { result ≡ op.repr i t }
@@ -151,6 +160,7 @@ pub fn repr(i: u32, t: u32) -> u32
 }
 
 // How many dwords of its own an index has.
+#[tactic(auto, unfolding(format::specs::Operands::own))]
 pub fn own(r: u32) -> usize
     ensures { result ≡ op.own r }
 {
@@ -162,12 +172,14 @@ pub fn own(r: u32) -> usize
 }
 
 // An operand stands in the index.
+#[tactic(auto, unfolding(format::specs::Operands::nests))]
 pub fn nests(r: u32) -> bool
     ensures { result ≡ op.nests r }
 {
     2 <= r && r < 5
 }
 
+#[tactic(auto, unfolding(format::specs::Operands::known))]
 pub fn known(r: u32) -> bool
     ensures { result ≡ op.known r }
 {
@@ -216,6 +228,7 @@ static STRAYS: [u32; 16] = [
 ];
 
 // Those of a dword.
+#[tactic(auto, using(crate::proofs::Usuals::stray_entry))]
 fn stray(t: u32) -> u32
     ensures { result ≡ stray_bits (t % 16) }
 {
@@ -237,6 +250,7 @@ pub fn short(t: u32) -> bool
 }
 
 // How many dwords an operand has whose dword is exact and without extensions and representations; None: it is another, or malformed.
+#[tactic(auto, using(crate::proofs::Usuals::immediates_few), unfolding(crate::specs::Usuals::usual_length))]
 pub fn usual_length(t: u32) -> Option<usize>
     ensures { result ≡ usual_length t }
 {
@@ -253,6 +267,7 @@ pub fn usual_length(t: u32) -> Option<usize>
 }
 
 // The modifiers that an extension holds.
+#[tactic(auto, unfolding(format::specs::Operands::modifiers))]
 pub fn modifiers(x: u32) -> u32
     ensures { result ≡ op.modifiers (x ∷ []) }
 {
@@ -260,6 +275,7 @@ pub fn modifiers(x: u32) -> u32
 }
 
 // An extension is of type 1, has some modifier, and no other bits.
+#[tactic(auto, unfolding(format::specs::Operands::exact_extension))]
 pub fn exact_extension(x: u32) -> bool
     ensures { result ≡ op.exact_extension (x ∷ []) }
 {
@@ -283,6 +299,7 @@ pub fn chain(part: &[u8], from: usize, first: bool) -> Option<usize>
 }
 
 // The modifiers of an operand's extensions, which stand between two places.
+#[tactic(auto, unfolding(format::specs::Operands::modifiers))]
 pub fn modifiers_of(part: &[u8], from: usize, to: usize) -> u32
     requires { (from ≤ to) × (to ≤ length (dwords_of part.now)) }
     ensures { result ≡ op.modifiers (slice from to (dwords_of part.now)) }
@@ -294,6 +311,7 @@ pub fn modifiers_of(part: &[u8], from: usize, to: usize) -> u32
 }
 
 // An operand's extensions, which stand between two places, are exact.
+#[tactic(auto, unfolding(format::specs::Operands::exact_extension))]
 pub fn exact_extensions(part: &[u8], from: usize, to: usize) -> bool
     requires { (from ≤ to) × (to ≤ length (dwords_of part.now)) }
     ensures { result ≡ op.exact_extension (slice from to (dwords_of part.now)) }
