@@ -159,6 +159,7 @@ pub fn operand_count(code: u32) -> Option<u32>
 }
 
 // The row of a declaration's code: 88 to 106, 120, 144 to 162, 206. Another code declares nothing.
+#[tactic(auto, unfolding(crate::specs::Table::row_of))]
 fn row_of(code: u32) -> Option<usize>
     ensures { result ≡ row_of code }
 {
@@ -173,6 +174,7 @@ fn row_of(code: u32) -> Option<usize>
 }
 
 // A row of the table, which tells its code's layout.
+#[tactic(auto, using(crate::proofs::Table::rule))]
 fn row_at(row: usize) -> u32
     requires { row < 40 }
     ensures { Right row result }
@@ -181,6 +183,7 @@ fn row_at(row: usize) -> u32
 }
 
 // A declaration's row of the table, if the code declares.
+#[tactic(auto, using(crate::proofs::Table::row_within, crate::proofs::Table::declares_row))]
 pub fn declaration(code: u32) -> Option<u32>
     ensures { Declares code result }
 {
@@ -231,6 +234,7 @@ fn plain(kind: Kind, width: u32, operands: u32, tail: bool) -> Shape
 }
 
 // How many field bits a counted code has.
+#[tactic(auto, unfolding(crate::specs::Table::width_of))]
 fn counted_width(code: u32) -> u32
     ensures { result ≡ width_of code }
 {
@@ -266,6 +270,7 @@ pub fn uncounted_layout(code: u32) -> Shape
 }
 
 // A token's field: the shape's bits, divided by 2,048.
+#[tactic(auto, using(crate::proofs::Fields::by_shifts))]
 pub fn field_of(s: Shape, t: u32) -> u32
     requires { Sound s }
     ensures { result ≡ field_in (field_of s) t }
@@ -274,6 +279,7 @@ pub fn field_of(s: Shape, t: u32) -> u32
 }
 
 // Whether the bounded bits of a token's field hold lo to hi.
+#[tactic(auto, using(crate::proofs::Fields::unbounded))]
 pub fn in_bounds(s: Shape, t: u32) -> bool
     requires { Sound s }
     ensures { result ≡ in_bounds (field_of s) t }
