@@ -2,19 +2,19 @@
 use Prim.Native.Nat.{ℕ, zero, suc, ◌+◌, ◌-◌, ◌*◌, ◌/◌, ◌%◌, ◌^◌, ◌<◌, ◌≤◌}
 use mathlib.Core.Path.{◌≡◌, refl, sym, ap, ◌∙◌, subst}
 use mathlib.Core.List.{List, [], ◌∷◌}
-use mathlib.Core.Bool.{Bool, true, false, not, cond, ◌&&◌}
+use mathlib.Core.Bool.{Bool, true, false, not, beq, cond, ◌&&◌}
 use native.Mathlib.Decide.{ℕ_discrete}
 use native.Mathlib.Omega.{arith}
 use lib.ListN.{length}
 use lib.Dec.{eqb, ltb}
 use lib.Pow.{pow_pos}
-use borrow.Author.Tests.{eq-eqb, ne_eqb, eqb-true, eqb-false, lt-ltb, ltb-true, not-false}
+use borrow.Author.Tests.{eq-eqb, ne_eqb, eqb-true, lt-ltb, ltb-true}
 use Rattle.format.specs.Dwords.{bits, follows}
 use Rattle.format.specs.Counts.{extension_type, lower_bits, rising, of_type, type_bits}
 use Rattle.format.specs.Encoder.{chain_of}
 use Rattle.format.proofs.Dwords.{impossible, both}
 use Rattle.format.proofs.Chains.{Rose, rose}
-use Rattle.instruction_fields.specs.declared.Place.TheVariants.{At, Off}
+use Rattle.std.specs.Prelude.{Option, Some, None}
 use Rattle.instruction_deep.specs.Confirm.{linked}
 use Rattle.instruction_deep.specs.Walks.{Counts, are, none_are, Chained}
 
@@ -312,51 +312,45 @@ module _ (u a b : ℕ) where
   chain_length (suc (suc (suc (suc (suc (suc (suc zero))))))) h = refl
   chain_length (suc (suc (suc (suc (suc (suc (suc (suc n)))))))) h = impossible (omega arith)
 
--- ---- bit 31
-pub bit_below : (n : ℕ) {x : ℕ} → x ≡ cond (ltb 0 n) 1 0 → x < 2
-bit_below n {x} e = go (ltb 0 n) e
-  where
-    go : (b : Bool) → x ≡ cond b 1 0 → x < 2
-    go true e = omega arith
-    go false e = omega arith
-
-pub bit_is : (b : Bool) {x : ℕ} → x ≡ cond b 1 0 → eqb x 1 ≡ b
-bit_is true {x} e = eq-eqb x 1 e
-bit_is false e = rw e
-
 -- ---- the code's ways
-module _ (bit n u a b : ℕ) where
-  abbrev Answers : Type 0
-  Answers = Chained (eqb bit 1) n u a b
+differ : (x y : Bool) → not (beq x y) ≡ true → x ≡ y → ⊥
+differ true true k e = impossible (cc)
+differ false false k e = impossible (cc)
+differ true false k e = impossible (cc)
+differ false true k e = impossible (cc)
 
-  pub other_bit : bit < 2 → (x : ℕ) → x ≡ cond (ltb 0 n) 1 0 → (bit ≡ x → ⊥) → Counts Answers (length (chain_of n u a b)) Off
-  other_bit h x e k = none_are (λ c. k (go (ltb 0 n) (chain_follows c) e))
-    where
-      go : (f : Bool) → eqb bit 1 ≡ f → x ≡ cond f 1 0 → bit ≡ x
-      go true p q = eqb-true bit 1 p ∙ sym q
-      go false p q = let z = eqb-false bit 1 p in omega (arith, h, q, z)
+alike : (x y : Bool) → not (beq x y) ≡ false → x ≡ y
+alike true true k = refl
+alike false false k = refl
+alike true false k = impossible (cc)
+alike false true k = impossible (cc)
 
-  pub too_many : 8 ≤ n → Counts Answers (length (chain_of n u a b)) Off
+module _ (there : Bool) (n u a b : ℕ) where
+  abbrev Answers : Option ℕ → Type 0
+  Answers p = Counts (Chained there n u a b) (length (chain_of n u a b)) p
+
+  unequal : {x y : Bool} → x ≡ y → x ≡ false → y ≡ true → ⊥
+  unequal e h k = impossible (cc)
+
+  pub other_bit : not (beq there (ltb 0 n)) ≡ true → Answers None
+  other_bit k = none_are (λ c. differ there (ltb 0 n) k (chain_follows c))
+
+  pub too_many : 8 ≤ n → Answers None
   too_many h = none_are (λ c. let z = chain_few c in absurd (let f : ⊥ = omega arith in f))
 
-  unequal : (x y : Bool) → x ≡ y → not x ≡ true → y ≡ true → ⊥
-  unequal true y e h k = impossible (cc)
-  unequal false y e h k = impossible (cc)
-
   module _ (p : Bool) (ep : p ≡ ltb u (cond (eqb (n % 2) 0) 1 4096)) where
-    pub not_first : not p ≡ true → Counts Answers (length (chain_of n u a b)) Off
-    not_first h = none_are (λ c. unequal p _ ep h (chain_first c))
+    pub not_first : p ≡ false → Answers None
+    not_first h = none_are (λ c. unequal ep h (chain_first c))
 
     module _ (q : Bool) (eq : q ≡ cond (eqb (n / 2 % 2) 0) (eqb a 0) (ltb a 2147483648 && eqb (extension_type a) 2)) where
-      pub not_second : not q ≡ true → Counts Answers (length (chain_of n u a b)) Off
-      not_second h = none_are (λ c. unequal q _ eq h (chain_second c))
+      pub not_second : q ≡ false → Answers None
+      not_second h = none_are (λ c. unequal eq h (chain_second c))
 
       module _ (r : Bool) (er : r ≡ cond (eqb (n / 4) 0) (eqb b 0) (ltb b 2147483648 && eqb (extension_type b) 3)) where
-        pub not_third : not r ≡ true → Counts Answers (length (chain_of n u a b)) Off
-        not_third h = none_are (λ c. unequal r _ er h (chain_third c))
+        pub not_third : r ≡ false → Answers None
+        not_third h = none_are (λ c. unequal er h (chain_third c))
 
-        pub all_fit : (x : ℕ) → x ≡ cond (ltb 0 n) 1 0 → bit ≡ x → n < 8 → not p ≡ false → not q ≡ false → not r ≡ false → (k : ℕ) → k ≡ n % 2 + n / 2 % 2 + n / 4 → Counts Answers (length (chain_of n u a b)) (At k)
-        all_fit x ex eb h hp hq hr k ek =
-            let l : length (chain_of n u a b) ≡ k = chain_length u a b n h ∙ sym ek in
-            let c = chain_fits u a b n h (sym ep ∙ not-false p hp, sym eq ∙ not-false q hq, sym er ∙ not-false r hr) in
-            rw l (are (omega (arith, ek, h)) (rw (bit_is (ltb 0 n) (eb ∙ ex)) c))
+        pub all_fit : not (beq there (ltb 0 n)) ≡ false → n < 8 → p ≡ true → q ≡ true → r ≡ true → Answers (Some (n % 2 + n / 2 % 2 + n / 4))
+        all_fit ez h hp hq hr =
+            let c = chain_fits u a b n h (sym ep ∙ hp, sym eq ∙ hq, sym er ∙ hr) in
+            rw (← (chain_length u a b n h)) (are (omega (arith, chain_length u a b n h)) (rw (alike there (ltb 0 n) ez) c))

@@ -6,8 +6,8 @@ use mathlib.Core.Bool.{Bool, true, false, cond, ◌&&◌, ◌||◌}
 use mathlib.Core.Logic.{◌⊎◌, inl, inr}
 use native.Mathlib.Nat.{add-zero}
 use native.Mathlib.Omega.{arith}
-use lib.ListN.{length, get_or}
-use lib.Dec.{eqb, ltb, lit<}
+use lib.ListN.{length}
+use lib.Dec.{eqb, ltb}
 use borrow.Author.Tests.{eqb-true, lt-ltb, le-ltb}
 use Rattle.format.specs.Dwords.{bits, follows}
 use Rattle.format.specs.Framing.{code, long, sized}
@@ -16,12 +16,11 @@ use Rattle.format.specs.Declarations.{in_table, Layout, layout, chained}
 use Rattle.format.specs.Instructions.{extensions}
 use Rattle.format.specs.Encoder.{at, chain_of, sized_row, head_of_row}
 use Rattle.format.proofs.Dwords.{impossible, both}
-use Rattle.operand_deep.proofs.Fields.{row_at}
-use Rattle.instruction_fields.specs.declared.Place.{Place}
-use Rattle.instruction_fields.specs.declared.Place.TheVariants.{At, Off}
+use Rattle.std.specs.Prelude.{Option, Some, Decides}
+use Rattle.std.specs.Bool.{then_some}
+use Rattle.std.proofs.lemmas.Bool.Decides.{not_from_Decides}
 use Rattle.instruction_deep.specs.Confirm.{linked, head_taken}
-use Rattle.instruction_deep.specs.Walks.{row_from, Decides, Counts, are, none_are, Unchained, Chained, Headed}
-use Rattle.instruction_deep.proofs.Deciding.{granted, refused}
+use Rattle.instruction_deep.specs.Walks.{Counts, are, none_are, Unchained, Chained, Headed}
 
 -- ---- codes whose length may be in the next dword have no chain
 chainless_145 : (c : ℕ) (b : Bool) → eqb c 145 ≡ b → (b || eqb c 146) ≡ true → chained (layout c) ≡ false
@@ -149,45 +148,34 @@ module _ (q : List ℕ) (t : ℕ) (ec : at 2 q ≡ code t) where
         record { risen = rw k at g.risen; taken = rw (z, k) at g.taken; bits_are = (rw (k, short z) at g.bits_are) ∙ add-zero _; first_is = rw k at g.first_is; second_is = rw k at g.second_is; third_is = rw k at g.third_is }
 
 -- ---- the code's ways
-counts_as : {P Q : Type 0} {n m : ℕ} {p : Place} → (P → Q) → (Q → P) → n ≡ m → Counts P n p → Counts Q m p
-counts_as {P} {Q} {n} f g e (are h a) = subst (λ (k : ℕ). Counts Q k (At n)) e (are h (f a))
+counts_as : {P Q : Type 0} {n m : ℕ} {p : Option ℕ} → (P → Q) → (Q → P) → n ≡ m → Counts P n p → Counts Q m p
+counts_as {P} {Q} {n} f g e (are h a) = subst (λ (k : ℕ). Counts Q k (Some n)) e (are h (f a))
 counts_as f g e (none_are n) = none_are (λ b. n (g b))
 
-module _ (l : List ℕ) (o t : ℕ) (ec : at 2 (row_from o l) ≡ code t) (b : Bool) (eb : b ≡ sized t) where
-  abbrev q₁ : List ℕ
-  q₁ = row_from o l
+-- what a test decides is counted where it holds
+counts_if : {P Q : Type 0} {n k : ℕ} (u : Bool) → Decides u P → n ≤ 3 → (P → Q) → (Q → P) → (P → n ≡ k) → Counts Q k (then_some u n)
+counts_if {P} {Q} {n} true d h f g e = subst (λ (k : ℕ). Counts Q k (Some n)) (e (d.0 refl)) (are h (f (d.0 refl)))
+counts_if false d h f g e = none_are (λ b. not_from_Decides false d refl (g b))
 
-  abbrev Answers : Place → Type 0
-  Answers p = Counts (Headed q₁ (layout (code t)) t (head_of_row q₁)) (length (head_of_row q₁)) p
+module _ (q : List ℕ) (t : ℕ) (ec : at 2 q ≡ code t) (b : Bool) (eb : b ≡ sized t) where
+  abbrev pub Answers : Option ℕ → Type 0
+  Answers p = Counts (Headed q (layout (code t)) t (head_of_row q)) (length (head_of_row q)) p
 
-  module _ (h : b ≡ true) {n : ℕ} (en : n ≡ cond (long t) 8 0) {u : Bool} (d : Decides (Unchained q₁ n) u) where
-    pub by_length : u ≡ true → Answers (At 1)
-    by_length k =
-        let a = subst (Unchained q₁) en (granted d k) in
-        let e : 1 ≡ length (head_of_row q₁) = sym (ap length (one_dword_lem q₁ t ec (sym eb ∙ h) a)) in
-        subst (λ (j : ℕ). Counts (Headed q₁ (layout (code t)) t (head_of_row q₁)) j (At 1)) e (are (omega arith) (sized_head q₁ t ec (sym eb ∙ h) a))
-
-    pub not_by_length : u ≡ false → Answers Off
-    not_by_length k = none_are (λ a. refused d k (subst (Unchained q₁) (sym en) (unchained_of q₁ t ec (sized_chainless t (sym eb ∙ h)) a)))
+  pub by_length : b ≡ true → {n : ℕ} → n ≡ cond (long t) 8 0 → {u : Bool} → Decides u (Unchained q n) → Answers (then_some u 1)
+  by_length h en {u} d =
+      let z : sized t ≡ true = sym eb ∙ h in
+      counts_if u (subst (λ (n : ℕ). Decides u (Unchained q n)) en d) (omega arith) (sized_head q t ec z) (unchained_of q t ec (sized_chainless t z)) (λ a. sym (ap length (one_dword_lem q t ec z a)))
 
   module _ (h : b ≡ false) (kind : ℕ) (ek : kind ≡ (layout (code t)).kind) where
-    pub by_chain : kind < 3 → {p : Place} → Counts (Chained (eqb (bits 31 31 t) 1) (get_or l (o + 8) 0) (get_or l (o + 9) 0) (get_or l (o + 10) 0) (get_or l (o + 11) 0)) (length (chain_of (get_or l (o + 8) 0) (get_or l (o + 9) 0) (get_or l (o + 10) 0) (get_or l (o + 11) 0))) p → Answers p
+    pub by_chain : kind < 3 → {p : Option ℕ} → Counts (Chained (eqb (bits 31 31 t) 1) (at 8 q) (at 9 q) (at 10 q) (at 11 q)) (length (chain_of (at 8 q) (at 9 q) (at 10 q) (at 11 q))) p → Answers p
     unfolding follows
     by_chain k {p} c =
         let z : sized t ≡ false = sym eb ∙ h in
         let y : chained (layout (code t)) ≡ true = lt-ltb (layout (code t)).kind 3 (omega (arith, k, ek)) in
-        counts_as (chain_head q₁ t ec z y) (head_chain q₁ t ec z y) (ap length (sym (a_chain q₁ t ec z y)))
-        (rw (row_at l o 8 (lit< tt), row_at l o 9 (lit< tt), row_at l o 10 (lit< tt), row_at l o 11 (lit< tt)) c)
+        counts_as (chain_head q t ec z y) (head_chain q t ec z y) (ap length (sym (a_chain q t ec z y))) c
 
-    module _ (k : 3 ≤ kind) {u : Bool} (d : Decides (Unchained q₁ 0) u) where
-      plain : chained (layout (code t)) ≡ false
-      plain = le-ltb (layout (code t)).kind 3 (omega (arith, k, ek))
-
-      pub by_none : u ≡ true → Answers (At 0)
-      by_none g =
-          let a = granted d g in
-          let e : 0 ≡ length (head_of_row q₁) = sym (ap length (no_dword q₁ t ec (sym eb ∙ h) plain a)) in
-          subst (λ (j : ℕ). Counts (Headed q₁ (layout (code t)) t (head_of_row q₁)) j (At 0)) e (are (omega arith) (bare_head q₁ t ec (sym eb ∙ h) plain a))
-
-      pub not_by_none : u ≡ false → Answers Off
-      not_by_none g = none_are (λ a. refused d g (head_bare q₁ t ec (sym eb ∙ h) plain a))
+    pub by_none : 3 ≤ kind → {u : Bool} → Decides u (Unchained q 0) → Answers (then_some u 0)
+    by_none k {u} d =
+        let z : sized t ≡ false = sym eb ∙ h in
+        let y : chained (layout (code t)) ≡ false = le-ltb (layout (code t)).kind 3 (omega (arith, k, ek)) in
+        counts_if u d (omega arith) (bare_head q t ec z y) (head_bare q t ec z y) (λ a. sym (ap length (no_dword q t ec z y a)))

@@ -6,18 +6,17 @@ use mathlib.Core.Bool.{Bool}
 use mathlib.Core.Option.{Option, none as nothing, some as just}
 use native.Mathlib.Nat.{add-zero as plus-zero}
 use native.Mathlib.Omega.{arith}
-use lib.ListN.{length, take, drop, replicate, length-append, length-drop}
-use lib.Seq.{take_all, length-take-le, drop-drop}
+use lib.ListN.{length, take, drop, length-append, length-drop}
+use lib.Seq.{length-take-le, drop-drop}
 use Rattle.format.specs.Operands as op
 use Rattle.format.specs.Operands.{Tree, none, plain, node}
-use Rattle.format.specs.Declarations.{Item, o}
+use Rattle.format.specs.Declarations.{Item}
 use Rattle.format.specs.Rows.{tree_rows, tree_words, parts_rows, parts_words, top_level}
 use Rattle.instruction_deep.specs.Confirm.{confirm_item, confirm_items}
 use Rattle.operand_deep.specs.Confirm.{◌>>=◌}
-use Rattle.instruction_deep.specs.Walks.{Sum, off, sum, add, total, sum_at, Takes, takes, lacks, PassesIn, Runs}
+use Rattle.instruction_deep.specs.Walks.{Sum, off, sum, add, total, sum_at, some_parts, Takes, takes, lacks, PassesIn}
 use Rattle.instruction_deep.specs.declared.Parts.{Parts}
-use Rattle.instruction_deep.specs.declared.Parts.TheVariants.{To, Lost}
-use Rattle.instruction_fields.specs.declared.Place.TheVariants.{At, Off}
+use Rattle.std.specs.Prelude.{Some, None}
 
 pub add_add : (r w n k r₁ w₁ n₁ k₁ : ℕ) (a : Sum) → add r w n k (add r₁ w₁ n₁ k₁ a) ≡ add (r + r₁) (w + w₁) (n + n₁) (k + k₁) a
 add_add r w n k r₁ w₁ n₁ k₁ off = refl
@@ -86,68 +85,60 @@ both_ways : (a b c : ℕ) → a ≤ b → b ≤ c → a ≤ c
 both_ways a b c h k = omega arith
 
 module _ {m : Bool} {rs ws : List ℕ} {r w : ℕ} where
-  pub takes_none : (items : List Item) → items ≡ [] → w ≤ length ws → Takes m items 0 rs ws r w (To r w 0)
-  takes_none items e h = takes {r₁ = r} {w₁ = w} {n = 0} (omega arith) (omega arith) (omega arith) h (omega arith) (λ l.
+  pub takes_none : (items : List Item) → items ≡ [] → w ≤ length ws → Takes m items 0 rs ws r w (some_parts r w 0)
+  takes_none items e h = takes {p = record { row = r; word = w; dwords = 0 }} (omega arith) (omega arith) (omega arith) h (omega arith) (λ l.
       let z₁ : r - r ≡ 0 = omega arith in
       let z₂ : w - w ≡ 0 = omega arith in
       rw (e, z₁, z₂) (sym (add-zero (sum_at m l rs ws r w))))
 
-  pub takes_first : {a : List Item} {k : ℕ} → Takes m a k rs ws r w Lost → (b : List Item) (k₁ : ℕ) → Takes m (a ++ b) k₁ rs ws r w Lost
+  pub takes_first : {a : List Item} {k : ℕ} → Takes m a k rs ws r w None → (b : List Item) (k₁ : ℕ) → Takes m (a ++ b) k₁ rs ws r w None
   takes_first {a} {k} (lacks f) b k₁ = lacks (λ l. ap (λ (x : List Item). sum_at m x rs ws r w) (append_assoc a b l) ∙ f (b ++ l))
 
-  module _ {a b : List Item} {k k₁ r₁ w₁ n : ℕ} where
-    pub takes_off : Takes m a k rs ws r w (To r₁ w₁ n) → Takes m b k₁ rs ws r₁ w₁ Lost → (k₂ : ℕ) → Takes m (a ++ b) k₂ rs ws r w Lost
-    takes_off (takes h₁ h₂ h₃ h₄ h₅ f) (lacks g) k₂ = lacks (λ l. ap (λ (x : List Item). sum_at m x rs ws r w) (append_assoc a b l) ∙ f (b ++ l) ∙ ap (add (r₁ - r) (w₁ - w) n k) (g l))
+  module _ {a b : List Item} {k k₁ : ℕ} {p : Parts} where
+    pub takes_off : Takes m a k rs ws r w (Some p) → Takes m b k₁ rs ws p.row p.word None → (k₂ : ℕ) → Takes m (a ++ b) k₂ rs ws r w None
+    takes_off (takes h₁ h₂ h₃ h₄ h₅ f) (lacks g) k₂ = lacks (λ l. ap (λ (x : List Item). sum_at m x rs ws r w) (append_assoc a b l) ∙ f (b ++ l) ∙ ap (add (p.row - r) (p.word - w) p.dwords k) (g l))
 
-    pub takes_then : {r₂ w₂ n₁ : ℕ} → Takes m a k rs ws r w (To r₁ w₁ n) → Takes m b k₁ rs ws r₁ w₁ (To r₂ w₂ n₁) → Takes m (a ++ b) (k + k₁) rs ws r w (To r₂ w₂ (n + n₁))
-    takes_then {r₂} {w₂} {n₁} (takes h₁ h₂ h₃ h₄ h₅ f) (takes g₁ g₂ g₃ g₄ g₅ g) = takes {r₁ = r₂} {w₁ = w₂} {n = n + n₁} (both_ways _ _ _ h₁ g₁) (reach _ _ _ (length rs / 16) h₁ h₂ g₂) (both_ways _ _ _ h₃ g₃) g₄ (few_more n n₁ _ _ _ _ _ _ h₅ g₅ (gap r r₁ r₂ h₁ g₁) (gap w w₁ w₂ h₃ g₃)) (λ l.
-        ap (λ (x : List Item). sum_at m x rs ws r w) (append_assoc a b l) ∙ f (b ++ l) ∙ ap (add (r₁ - r) (w₁ - w) n k) (g l) ∙
-        add_add (r₁ - r) (w₁ - w) n k (r₂ - r₁) (w₂ - w₁) n₁ k₁ (sum_at m l rs ws r₂ w₂) ∙ (λ i. add (gap r r₁ r₂ h₁ g₁ i) (gap w w₁ w₂ h₃ g₃ i) (n + n₁) (k + k₁) (sum_at m l rs ws r₂ w₂)))
-
--- a pool that is lent anew, whole
-pub lent : (l : List ℕ) → take (length l - 0) l ≡ l
-lent l = take_all (length l - 0) l (omega arith)
-
-pub lent_within : (l : List ℕ) {n : ℕ} → n ≤ length l → n ≤ length (take (length l - 0) l)
-lent_within l h = rw (lent l) h
-
-pub lent_runs : (rs ws : List ℕ) {k r w : ℕ} {p : Parts} → Runs k (take (length rs - 0) rs) (take (length ws - 0) ws) r w p → Runs k rs ws r w p
-lent_runs rs ws {k} {r} {w} {p} f m = subst (λ (x : List ℕ). Takes m (replicate k o) k rs x r w p) (lent ws) (subst (λ (x : List ℕ). Takes m (replicate k o) k x (take (length ws - 0) ws) r w p) (lent rs) (f m))
+    pub takes_then : {q : Parts} → Takes m a k rs ws r w (Some p) → Takes m b k₁ rs ws p.row p.word (Some q) → Takes m (a ++ b) (k + k₁) rs ws r w (some_parts q.row q.word (p.dwords + q.dwords))
+    takes_then {q} (takes h₁ h₂ h₃ h₄ h₅ f) (takes g₁ g₂ g₃ g₄ g₅ g) = takes {p = record { row = q.row; word = q.word; dwords = p.dwords + q.dwords }} (both_ways _ _ _ h₁ g₁) (reach _ _ _ (length rs / 16) h₁ h₂ g₂) (both_ways _ _ _ h₃ g₃) g₄
+        (few_more p.dwords q.dwords _ _ _ _ _ _ h₅ g₅ (gap r p.row q.row h₁ g₁) (gap w p.word q.word h₃ g₃)) (λ l.
+        ap (λ (x : List Item). sum_at m x rs ws r w) (append_assoc a b l) ∙ f (b ++ l) ∙ ap (add (p.row - r) (p.word - w) p.dwords k) (g l) ∙
+        add_add (p.row - r) (p.word - w) p.dwords k (q.row - p.row) (q.word - p.word) q.dwords k₁ (sum_at m l rs ws q.row q.word) ∙
+        (λ i. add (gap r p.row q.row h₁ g₁ i) (gap w p.word q.word h₃ g₃ i) (p.dwords + q.dwords) (k + k₁) (sum_at m l rs ws q.row q.word)))
 
 -- the sizes of what stands there
-pub record Bounds (rs ws : List ℕ) (r w r₁ w₁ n : ℕ) : Type 0 where
-  pub rows_from : r ≤ r₁
-  pub rows_to : r₁ ≤ r + (length rs / 16 - r)
-  pub words_from : w ≤ w₁
-  pub words_to : w₁ ≤ length ws
-  pub few : n ≤ 2 * (r₁ - r) + (w₁ - w)
+pub record Bounds (rs ws : List ℕ) (r w : ℕ) (p : Parts) : Type 0 where
+  pub rows_from : r ≤ p.row
+  pub rows_to : p.row ≤ r + (length rs / 16 - r)
+  pub words_from : w ≤ p.word
+  pub words_to : p.word ≤ length ws
+  pub few : p.dwords ≤ 2 * (p.row - r) + (p.word - w)
 
-pub bounds : {m : Bool} {items : List Item} {k : ℕ} {rs ws : List ℕ} {r w r₁ w₁ n : ℕ} → Takes m items k rs ws r w (To r₁ w₁ n) → Bounds rs ws r w r₁ w₁ n
+pub bounds : {m : Bool} {items : List Item} {k : ℕ} {rs ws : List ℕ} {r w : ℕ} {p : Parts} → Takes m items k rs ws r w (Some p) → Bounds rs ws r w p
 bounds (takes h₁ h₂ h₃ h₄ h₅ f) = record { rows_from = h₁; rows_to = h₂; words_from = h₃; words_to = h₄; few = h₅ }
 
-pub all_few : {rs ws : List ℕ} {r w r₁ w₁ n : ℕ} → Bounds rs ws r w r₁ w₁ n → n + (length ws - w₁) ≤ length rs + length ws
+pub all_few : {rs ws : List ℕ} {r w : ℕ} {p : Parts} → Bounds rs ws r w p → p.dwords + (length ws - p.word) ≤ length rs + length ws
 all_few b = omega (arith, b.rows_from, b.rows_to, b.words_from, b.words_to, b.few)
 
 -- an item of n words
 module _ {m : Bool} {i : Item} {ws : List ℕ} {w : ℕ} where
-  pub passes_item : (n : ℕ) → w ≤ length ws → n ≤ length ws - w → ((rs : List ℕ) (r : ℕ) → confirm_item m i rs (drop w ws) r w ≡ just (plain (take n (drop w ws)) none)) → PassesIn m (i ∷ []) ws w (At (w + n))
-  passes_item n h k f rs r = takes {r₁ = r} {w₁ = w + n} {n = w + n - w} (omega arith) (omega arith) (omega arith) (omega arith) (omega arith) (λ l.
+  pub passes_item : (n : ℕ) → w ≤ length ws → n ≤ length ws - w → ((rs : List ℕ) (r : ℕ) → confirm_item m i rs (drop w ws) r w ≡ just (plain (take n (drop w ws)) none)) → PassesIn m (i ∷ []) ws w (Some (w + n))
+  passes_item n h k f rs r = takes {p = record { row = r; word = w + n; dwords = w + n - w }} (omega arith) (omega arith) (omega arith) (omega arith) (omega arith) (λ l.
       let z₁ : 0 ≡ r - r = omega arith in
       let z₂ : n ≡ w + n - w = omega arith in
       plain_step m i l rs ws r w n k (f (drop (16 * r) rs) r) ∙ (λ j. add (z₁ j) (z₂ j) (z₂ j) 0 (sum_at m l rs ws r (w + n))))
 
-  pub blocks_item : ((rs : List ℕ) (r : ℕ) → confirm_item m i rs (drop w ws) r w ≡ nothing) → PassesIn m (i ∷ []) ws w Off
+  pub blocks_item : ((rs : List ℕ) (r : ℕ) → confirm_item m i rs (drop w ws) r w ≡ nothing) → PassesIn m (i ∷ []) ws w None
   blocks_item f rs r = lacks (λ l. item_off m i l rs ws r w (f (drop (16 * r) rs) r))
 
 -- one after the other
 module _ {m : Bool} (a b : List Item) {ws : List ℕ} {w : ℕ} where
-  pub passes_first : PassesIn m a ws w Off → PassesIn m (a ++ b) ws w Off
+  pub passes_first : PassesIn m a ws w None → PassesIn m (a ++ b) ws w None
   passes_first f rs r = takes_first (f rs r) b 0
 
-  pub passes_off : {w₁ : ℕ} → PassesIn m a ws w (At w₁) → PassesIn m b ws w₁ Off → PassesIn m (a ++ b) ws w Off
+  pub passes_off : {w₁ : ℕ} → PassesIn m a ws w (Some w₁) → PassesIn m b ws w₁ None → PassesIn m (a ++ b) ws w None
   passes_off f g rs r = takes_off (f rs r) (g rs r) 0
 
-  pub passes_then : {w₁ w₂ : ℕ} → PassesIn m a ws w (At w₁) → PassesIn m b ws w₁ (At w₂) → PassesIn m (a ++ b) ws w (At w₂)
+  pub passes_then : {w₁ w₂ : ℕ} → PassesIn m a ws w (Some w₁) → PassesIn m b ws w₁ (Some w₂) → PassesIn m (a ++ b) ws w (Some w₂)
   passes_then {w₁} {w₂} f g rs r =
       let z : w₁ - w + (w₂ - w₁) ≡ w₂ - w = gap w w₁ w₂ (bounds (f rs r)).words_from (bounds (g rs r)).words_from in
-      subst (λ (n : ℕ). Takes m (a ++ b) 0 rs ws r w (To r w₂ n)) z (takes_then (f rs r) (g rs r))
+      subst (λ (n : ℕ). Takes m (a ++ b) 0 rs ws r w (some_parts r w₂ n)) z (takes_then (f rs r) (g rs r))

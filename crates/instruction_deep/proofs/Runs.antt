@@ -3,7 +3,8 @@ use Prim.Native.Nat.{ℕ, zero, suc, ◌+◌, ◌-◌, ◌*◌, ◌/◌, ◌≤�
 use mathlib.Core.Path.{◌≡◌, refl, ap, ◌∙◌, subst}
 use mathlib.Core.List.{List, [], ◌∷◌, ◌++◌}
 use mathlib.Core.Bool.{Bool, true, false, cond, ◌&&◌}
-use mathlib.Core.Option.{Option, none as nothing, some as just}
+use mathlib.Core.Option.{Option as Maybe, none as nothing, some as just}
+use Rattle.std.specs.Prelude.{Option, Some, None}
 use native.Mathlib.Omega.{arith}
 use lib.ListN.{length, take, drop, replicate}
 use lib.Dec.{leb, eqb}
@@ -17,8 +18,6 @@ use Rattle.format.proofs.Dwords.{impossible}
 use Rattle.layouts.specs.Shapes.{items_of}
 use Rattle.layouts.specs.declared.Shape.{Shape}
 use Rattle.instruction_fields.specs.Fields.{rest}
-use Rattle.instruction_fields.specs.declared.Place.{Place}
-use Rattle.instruction_fields.specs.declared.Place.TheVariants.{At, Off}
 use Rattle.operand_deep.specs.Confirm.{Confirmer, ◌>>=◌, behind, confirm_index, confirm, confirm_front, confirm_immediates, confirm_indices, confirmed}
 use Rattle.operand_deep.specs.Walks.{walked, there}
 use Rattle.operand_deep.specs.declared.Walked.TheVariants.{Is, Not}
@@ -26,9 +25,8 @@ use Rattle.operand_deep.proofs.Every.{Every, unmet, met, every_if, every_of}
 use Rattle.operand_deep.proofs.Found.{walk_found, walk_lost}
 use Rattle.operand_deep.proofs.Walks.{no_row}
 use Rattle.instruction_deep.specs.Confirm.{confirm_item}
-use Rattle.instruction_deep.specs.Walks.{add, sum_at, Takes, takes, lacks, PassesIn, words_on, Runs}
+use Rattle.instruction_deep.specs.Walks.{some_parts, add, sum_at, Takes, takes, lacks, PassesIn, words_on, Runs}
 use Rattle.instruction_deep.specs.declared.Parts.{Parts}
-use Rattle.instruction_deep.specs.declared.Parts.TheVariants.{To, Lost}
 use Rattle.instruction_deep.proofs.Items.{item_step, item_off, Bounds, bounds, all_few, takes_none, takes_first, takes_off, takes_then}
 use Rattle.instruction_deep.proofs.Passing.{words_on_lem}
 
@@ -40,7 +38,7 @@ one_confirmed : (q : List ℕ) (r w t : ℕ) (e m : List ℕ) (a b c : Tree) →
 unfolding confirmed top_level
 one_confirmed q r w t e m a b c = every_if (same q (operand_row r w t e m a b c)) (just (node t e m a b c)) nothing (λ h. met refl) (λ h. unmet)
 
-each : (g : Option Tree) (f : Tree → Option Tree) → ((x : Tree) → Every One (f x)) → Every One (◌>>=◌ g f)
+each : (g : Maybe Tree) (f : Tree → Maybe Tree) → ((x : Tree) → Every One (f x)) → Every One (◌>>=◌ g f)
 each nothing f k = unmet
 each (just x) f k = k x
 
@@ -74,42 +72,38 @@ there_row rs ws r w i n k e = go (leb (length rs / 16) r) refl
     go true h = let z = no_row 64 rs ws r w (λ z. omega arith) (leb-true (length rs / 16) r h) in impossible (cc)
     go false h = let z = leb-false (length rs / 16) r h in omega arith
 
-pub operand_takes : (m : Bool) (rs ws : List ℕ) (r w i n k : ℕ) → w ≤ length ws → Is i n k ≡ walked (there (confirm 64) rs ws r w) → Takes m (o ∷ []) 1 rs ws r w (To (r + i) (w + n) k)
+pub operand_takes : (m : Bool) (rs ws : List ℕ) (r w i n k : ℕ) → w ≤ length ws → Is i n k ≡ walked (there (confirm 64) rs ws r w) → Takes m (o ∷ []) 1 rs ws r w (some_parts (r + i) (w + n) k)
 unfolding confirm_item
 operand_takes m rs ws r w i n k h e =
     let f = walk_found 64 rs ws r w (there_row rs ws r w i n k e) i n k e in
     let t = every_of f.is (one_operand 64 (drop (16 * r) rs) (drop w ws) r w) in
     let z₁ : i ≡ r + i - r = omega arith in
     let z₂ : n ≡ w + n - w = omega arith in
-    takes {r₁ = r + i} {w₁ = w + n} {n = k} (omega arith) (omega (arith, f.rows_fit)) (omega arith) (omega (arith, f.words_fit)) (omega (arith, f.few)) (λ l.
+    takes {p = record { row = r + i; word = w + n; dwords = k }} (omega arith) (omega (arith, f.rows_fit)) (omega arith) (omega (arith, f.words_fit)) (omega (arith, f.few)) (λ l.
     item_step m o l rs ws r w f.tree f.is ∙ rw (f.rows_are, f.words_are, f.dwords_are, t) (λ j. add (z₁ j) (z₂ j) k 1 (sum_at m l rs ws (r + i) (w + n))))
 
-pub operand_lost : (m : Bool) (rs ws : List ℕ) (r w : ℕ) → Not ≡ walked (there (confirm 64) rs ws r w) → Takes m (o ∷ []) 1 rs ws r w Lost
+pub operand_lost : (m : Bool) (rs ws : List ℕ) (r w : ℕ) → Not ≡ walked (there (confirm 64) rs ws r w) → Takes m (o ∷ []) 1 rs ws r w None
 unfolding confirm_item
 operand_lost m rs ws r w e = lacks (λ l. item_off m o l rs ws r w (walk_lost _ e))
 
 -- ---- i of k operands have been walked
-pub record Walking (k : ℕ) (rs ws : List ℕ) (r w i r₁ w₁ n : ℕ) : Type 0 where
-  pub some : i ≤ k
-  pub done : (m : Bool) → Takes m (replicate i o) i rs ws r w (To r₁ w₁ n)
+abbrev pub Walking : ℕ → List ℕ → List ℕ → ℕ → ℕ → ℕ → Parts → Type 0
+Walking k rs ws r w i p = (i ≤ k) × Runs i rs ws r w (Some p)
 
-pub begin : (k : ℕ) (rs ws : List ℕ) (r w : ℕ) → w ≤ length ws → Walking k rs ws r w 0 r w 0
-begin k rs ws r w h = record { some = omega arith; done = λ m. takes_none [] refl h }
+pub begin : (k : ℕ) (rs ws : List ℕ) (r w : ℕ) → w ≤ length ws → Walking k rs ws r w 0 (record { row = r; word = w; dwords = 0 })
+begin k rs ws r w h = (omega arith, λ m. takes_none [] refl h)
 
 pub one_more : (k : ℕ) → replicate k o ++ (o ∷ []) ≡ replicate (k + 1) o
 one_more zero = refl
 one_more (suc k) = let z : suc k + 1 ≡ suc (k + 1) = omega arith in rw z (ap (λ (l : List Item). o ∷ l) (one_more k))
 
-module _ {k : ℕ} {rs ws : List ℕ} {r w i r₁ w₁ n : ℕ} (g : Walking k rs ws r w i r₁ w₁ n) where
-  pub within : w₁ ≤ length ws
-  within = (bounds (g.done true)).words_to
+module _ {k : ℕ} {rs ws : List ℕ} {r w i : ℕ} {p : Parts} (g : Walking k rs ws r w i p) where
+  pub within : p.word ≤ length ws
+  within = (bounds (g.1 true)).words_to
 
   module _ (h : i < k) where
-    pub goes_on : {a b c : ℕ} → Is a b c ≡ walked (there (confirm 64) rs ws r₁ w₁) → Walking k rs ws r w (i + 1) (r₁ + a) (w₁ + b) (n + c)
-    goes_on {a} {b} {c} e = record {
-      some = omega arith;
-      done = λ m. rw (← (one_more i)) (takes_then (g.done m) (operand_takes m rs ws r₁ w₁ a b c within e));
-    }
+    pub goes_on : {a b c : ℕ} → Is a b c ≡ walked (there (confirm 64) rs ws p.row p.word) → Walking k rs ws r w (i + 1) (record { row = p.row + a; word = p.word + b; dwords = p.dwords + c })
+    goes_on {a} {b} {c} e = (omega arith, λ m. rw (← (one_more i)) (takes_then (g.1 m) (operand_takes m rs ws p.row p.word a b c within e)))
 
     split : replicate k o ≡ replicate i o ++ replicate (k - i) o
     split = go i k (omega arith)
@@ -119,72 +113,72 @@ module _ {k : ℕ} {rs ws : List ℕ} {r w i r₁ w₁ n : ℕ} (g : Walking k r
         go (suc i) zero h = impossible (omega arith)
         go (suc i) (suc k) h = let z : suc k - suc i ≡ k - i = omega arith in rw z (ap (λ (l : List Item). o ∷ l) (go i k (omega arith)))
 
-    pub stopped : Not ≡ walked (there (confirm 64) rs ws r₁ w₁) → Runs k rs ws r w Lost
+    pub stopped : Not ≡ walked (there (confirm 64) rs ws p.row p.word) → Runs k rs ws r w None
     stopped e m =
         let z : k - i ≡ suc (k - i - 1) = omega arith in
         let y : replicate k o ≡ replicate i o ++ ((o ∷ []) ++ replicate (k - i - 1) o) = split ∙ ap (λ (j : ℕ). replicate i o ++ replicate j o) z in
-        rw y (takes_off (g.done m) (takes_first (operand_lost m rs ws r₁ w₁ e) (replicate (k - i - 1) o) 0) k)
+        rw y (takes_off (g.1 m) (takes_first (operand_lost m rs ws p.row p.word e) (replicate (k - i - 1) o) 0) k)
 
-  pub finished : k ≤ i → Runs k rs ws r w (To r₁ w₁ n)
-  finished h m = let z : i ≡ k = omega (arith, g.some) in rw z at (g.done m)
+  pub finished : k ≤ i → Runs k rs ws r w (Some p)
+  finished h m = let z : i ≡ k = omega (arith, g.0) in rw z at (g.1 m)
 
-  pub room : (r₁ ≤ r + (length rs / 16 - r)) × (w₁ ≤ length ws) × (n ≤ length rs + length ws)
-  room = let b = bounds (g.done true) in (b.rows_to, b.words_to, omega (arith, all_few b))
+  pub room : (p.row ≤ r + (length rs / 16 - r)) × (p.word ≤ length ws) × (p.dwords ≤ length rs + length ws)
+  room = let b = bounds (g.1 true) in (b.rows_to, b.words_to, omega (arith, all_few b))
 
 -- ---- the items of a shape
-module _ (m : Bool) (x : Shape) (rs ws : List ℕ) (r w : ℕ) (h : w ≤ length ws) (p : Place) (e : p ≡ words_on (length ws) w x.before) where
+module _ (m : Bool) (x : Shape) (rs ws : List ℕ) (r w : ℕ) (h : w ≤ length ws) (p : Option ℕ) (e : p ≡ words_on (length ws) w x.before) where
   first : PassesIn m (replicate x.before d) ws w p
   first = rw e (words_on_lem m x.before ws w h)
 
-  pub before_off : p ≡ Off → Takes m (items_of x) x.operands rs ws r w Lost
+  pub before_off : p ≡ None → Takes m (items_of x) x.operands rs ws r w None
   unfolding items_of
   before_off z = takes_first (subst (PassesIn m _ ws w) z first rs r) _ x.operands
 
-  module _ (a : ℕ) (ea : p ≡ At a) where
-    at_first : Takes m (replicate x.before d) 0 rs ws r w (To r a (a - w))
+  module _ (a : ℕ) (ea : p ≡ Some a) where
+    at_first : Takes m (replicate x.before d) 0 rs ws r w (some_parts r a (a - w))
     at_first = subst (PassesIn m _ ws w) ea first rs r
 
     pub first_bounds : (w ≤ a) × (a ≤ length ws)
     first_bounds = let b = bounds at_first in (b.words_from, b.words_to)
 
-    module _ {q : Parts} (run : Runs x.operands rs ws r a q) where
-      pub operands_off : q ≡ Lost → Takes m (items_of x) x.operands rs ws r w Lost
+    module _ {q : Option Parts} (run : Runs x.operands rs ws r a q) where
+      pub operands_off : q ≡ None → Takes m (items_of x) x.operands rs ws r w None
       unfolding items_of rest
       operands_off z = takes_off {b = replicate x.operands o ++ rest x} at_first (takes_first (subst (Takes m _ _ rs ws r a) z (run m)) (rest x) x.operands) x.operands
 
-      module _ (r₁ b n : ℕ) (eb : q ≡ To r₁ b n) where
-        at_second : Takes m (replicate x.operands o) x.operands rs ws r a (To r₁ b n)
+      module _ (b : Parts) (eb : q ≡ Some b) where
+        at_second : Takes m (replicate x.operands o) x.operands rs ws r a (Some b)
         at_second = subst (Takes m _ _ rs ws r a) eb (run m)
 
-        pub second_bounds : Bounds rs ws r a r₁ b n
+        pub second_bounds : Bounds rs ws r a b
         second_bounds = bounds at_second
 
-        module _ (u : Place) (last : PassesIn m (rest x) ws b u) where
-          pub rest_off : u ≡ Off → Takes m (items_of x) x.operands rs ws r w Lost
+        module _ (u : Option ℕ) (last : PassesIn m (rest x) ws b.word u) where
+          pub rest_off : u ≡ None → Takes m (items_of x) x.operands rs ws r w None
           unfolding items_of rest
-          rest_off z = takes_off {b = replicate x.operands o ++ rest x} at_first (takes_off {b = rest x} at_second (subst (PassesIn m (rest x) ws b) z last rs r₁) x.operands) x.operands
+          rest_off z = takes_off {b = replicate x.operands o ++ rest x} at_first (takes_off {b = rest x} at_second (subst (PassesIn m (rest x) ws b.word) z last rs b.row) x.operands) x.operands
 
-          module _ (w₁ : ℕ) (ew : u ≡ At w₁) where
-            at_third : Takes m (rest x) 0 rs ws r₁ b (To r₁ w₁ (w₁ - b))
-            at_third = subst (PassesIn m (rest x) ws b) ew last rs r₁
+          module _ (w₁ : ℕ) (ew : u ≡ Some w₁) where
+            at_third : Takes m (rest x) 0 rs ws b.row b.word (some_parts b.row w₁ (w₁ - b.word))
+            at_third = subst (PassesIn m (rest x) ws b.word) ew last rs b.row
 
-            pub third_bounds : (b ≤ w₁) × (w₁ ≤ length ws)
+            pub third_bounds : (b.word ≤ w₁) × (w₁ ≤ length ws)
             third_bounds = let b = bounds at_third in (b.words_from, b.words_to)
 
-            pub all_parts_lem : Takes m (items_of x) x.operands rs ws r w (To r₁ w₁ (a - w + n + (w₁ - b)))
+            pub all_parts_lem : Takes m (items_of x) x.operands rs ws r w (some_parts b.row w₁ (a - w + b.dwords + (w₁ - b.word)))
             unfolding items_of rest
             all_parts_lem =
                 let z : 0 + (x.operands + 0) ≡ x.operands = omega arith in
-                let y : a - w + (n + (w₁ - b)) ≡ a - w + n + (w₁ - b) = omega arith in
+                let y : a - w + (b.dwords + (w₁ - b.word)) ≡ a - w + b.dwords + (w₁ - b.word) = omega arith in
                 rw (z, y) at (takes_then {b = replicate x.operands o ++ rest x} at_first (takes_then {b = rest x} at_second at_third))
 
-            pub parts_few : a - w + n + (w₁ - b) ≤ length rs + length ws
+            pub parts_few : a - w + b.dwords + (w₁ - b.word) ≤ length rs + length ws
             parts_few =
                 let f = first_bounds in
                 let g = second_bounds in
                 let t = third_bounds in
-                let k : n ≤ length rs + (b - a) = omega (arith, g.rows_from, g.rows_to, g.few) in
-                go a b w₁ (length rs) (length ws) n f.0 g.words_from t.0 t.1 k
+                let k : b.dwords ≤ length rs + (b.word - a) = omega (arith, g.rows_from, g.rows_to, g.few) in
+                go a b.word w₁ (length rs) (length ws) b.dwords f.0 g.words_from t.0 t.1 k
               where
                 go : (a b w₁ i j n : ℕ) → w ≤ a → a ≤ b → b ≤ w₁ → w₁ ≤ j → n ≤ i + (b - a) → a - w + n + (w₁ - b) ≤ i + j
                 go a b w₁ i j n f g t u k = omega arith

@@ -1,12 +1,12 @@
 -- A row is the one that the reader writes exactly when its sixteen words are.
-use Prim.Native.Nat.{ℕ, zero, suc, ◌+◌, ◌%◌, ◌^◌, ◌<◌, ◌≤◌}
+use Prim.Native.Nat.{ℕ, zero, suc, ◌+◌, ◌%◌, ◌^◌, ◌<◌}
 use mathlib.Core.Path.{◌≡◌, refl, sym, ap, ◌∙◌, subst}
 use mathlib.Core.List.{List, [], ◌∷◌}
 use mathlib.Core.Bool.{Bool, true, false, cond, ◌&&◌}
 use mathlib.Core.Option.{none as nothing, some as just}
 use native.Mathlib.Omega.{arith}
-use lib.ListN.{length, drop, length-append, length-drop, drop_of_length-le}
-use lib.Seq.{drop-cons, length-take-le}
+use lib.ListN.{length, drop, length-append, drop_of_length-le}
+use lib.Seq.{drop-cons}
 use lib.Dec.{eqb, ltb}
 use borrow.Author.Tests.{eqb-true, eq-eqb, lt-ltb, ltb-true}
 use Rattle.format.specs.Dwords.{bits}
@@ -21,7 +21,7 @@ use Rattle.format.proofs.Dwords.{both}
 use Rattle.format.proofs.Encoder.{same_eq, same_refl}
 use Rattle.instruction_fields.specs.Fields.{headed, classed}
 use Rattle.instruction_deep.specs.Confirm.{head_taken, confirm_pieces, confirm_unread}
-use Rattle.instruction_deep.specs.Walks.{row_from, Fielded, Pieces, Placed, Bare}
+use Rattle.instruction_deep.specs.Walks.{Fielded, Pieces, Placed, Bare}
 
 -- n words from word i on
 unfoldable words_of : ℕ → ℕ → List ℕ → List ℕ
@@ -32,9 +32,6 @@ words_of_lem : (n i : ℕ) (q : List ℕ) → i + n ≡ length q → drop i q �
 unfolding words_of
 words_of_lem zero i q e = drop_of_length-le q {i = i} (omega arith)
 words_of_lem (suc n) i q e = drop-cons q i 0 (omega arith) ∙ ap (λ (l : List ℕ). at i q ∷ l) (words_of_lem n (suc i) q (omega arith))
-
-pub row_length : (l : List ℕ) (o : ℕ) → o + 16 ≤ length l → length (row_from o l) ≡ 16
-row_length l o h = length-take-le 16 (drop o l) (rw (length-drop o l) (omega arith))
 
 -- sixteen words
 sixteen : (q : List ℕ) → length q ≡ 16 → q ≡ at 0 q ∷ at 1 q ∷ at 2 q ∷ at 3 q ∷ at 4 q ∷ at 5 q ∷ at 6 q ∷ at 7 q ∷ at 8 q ∷ at 9 q ∷ at 10 q ∷ at 11 q ∷ at 12 q ∷ at 13 q ∷ at 14 q ∷ at 15 q ∷ []

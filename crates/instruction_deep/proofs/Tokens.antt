@@ -6,32 +6,36 @@ use mathlib.Core.Bool.{Bool, true, false, cond, not, ◌&&◌, ◌||◌}
 use native.Mathlib.Nat.{mod-add-div, mod-lt}
 use native.Mathlib.Omega.{arith}
 use lib.ListN.{length, get_or}
-use lib.Dec.{eqb, ltb, lit<}
+use lib.Dec.{eqb, ltb}
 use lib.Pow.{pow_pos, shl_exact}
-use borrow.Author.Tests.{eqb-true, eq-eqb, not-true, not-false}
+use borrow.Author.Tests.{eqb-true}
 use Rattle.format.specs.Dwords.{bits}
 use Rattle.format.specs.Framing.{code, long, sized, length_of}
 use Rattle.format.specs.Counts.{Fields, within, token_with}
-use Rattle.format.specs.Declarations.{Layout, layout, chained, field_in, in_bounds}
+use Rattle.format.specs.Declarations.{layout, chained, field_in, in_bounds}
 use Rattle.format.specs.Instructions.{fields_of}
 use Rattle.format.specs.Encoder.{at, sized_row, token_of_row, head_of_row}
-use Rattle.format.proofs.Dwords.{impossible, bits_above}
+use Rattle.format.proofs.Dwords.{bits_above}
 use Rattle.layouts.specs.Shapes.{Sound, Laid, meant, field_of}
 use Rattle.layouts.specs.declared.Shape.{Shape}
 use Rattle.layouts.proofs.Fields.{value}
-use Rattle.operand_deep.proofs.Fields.{row_at}
 use Rattle.instruction_fields.specs.Fields.{classed}
-use Rattle.instruction_fields.specs.declared.Place.{Place}
-use Rattle.instruction_fields.specs.declared.Place.TheVariants.{At, Off}
-use Rattle.instruction_deep.specs.Walks.{row_from, Decides, holds, fails, Counts, are, none_are, Headed, Fielded, Sized, Exact, Pieces}
-use Rattle.instruction_deep.proofs.Deciding.{granted, refused, Told, told as counted}
+use Rattle.std.specs.Prelude.{Option, Some, Decides}
+use Rattle.std.specs.Int.{from_bool}
+use Rattle.std.proofs.lemmas.Bool.Decides.{Decides-like}
+use Rattle.instruction_deep.specs.Walks.{Counts, Headed, Fielded, Sized, Exact, Pieces}
+use Rattle.instruction_deep.proofs.Deciding.{fails, Told, told as counted}
 use Rattle.instruction_deep.proofs.Heads.{sized_dword}
 
 -- ---- the token that a row tells
-pub token_at : (l : List ℕ) (o n x r : ℕ) (b : Bool) → b ≡ (eqb (get_or l (o + 2) 0) 53 || (eqb (get_or l (o + 2) 0) 145 || eqb (get_or l (o + 2) 0) 146) && ltb 0 (get_or l (o + 8) 0)) → n ≡ cond b 0 (get_or l (o + 1) 0) → x ≡ cond (ltb 0 (get_or l (o + 8) 0)) 1 0 →
-    r ≡ token_with (get_or l (o + 2) 0) (record { field = get_or l (o + 7) 0; saturate = get_or l (o + 4) 0; test = get_or l (o + 5) 0; precise = get_or l (o + 6) 0; length = n; extended = x }) → r ≡ token_of_row (row_from o l)
+extended_is : (b : Bool) → from_bool b ≡ cond b 1 0
+extended_is true = refl
+extended_is false = refl
+
+pub token_at : (q : List ℕ) (n x r : ℕ) (b : Bool) → b ≡ (eqb (at 2 q) 53 || (eqb (at 2 q) 145 || eqb (at 2 q) 146) && ltb 0 (at 8 q)) → n ≡ cond b 0 (at 1 q) → x ≡ from_bool (ltb 0 (at 8 q)) →
+    r ≡ token_with (at 2 q) (record { field = at 7 q; saturate = at 4 q; test = at 5 q; precise = at 6 q; length = n; extended = x }) → r ≡ token_of_row q
 unfolding token_of_row sized_row
-token_at l o n x r b eb en ex er = rw (row_at l o 1 (lit< tt), row_at l o 2 (lit< tt), row_at l o 4 (lit< tt), row_at l o 5 (lit< tt), row_at l o 6 (lit< tt), row_at l o 7 (lit< tt), row_at l o 8 (lit< tt), ← eb, ← en, ← ex) er
+token_at q n x r b eb en ex er = rw (← eb, ← en, ← (extended_is (ltb 0 (at 8 q))), ← ex) er
 
 -- ---- an exact token is a dword
 cond_below : (b : Bool) (k n : ℕ) → k < n → cond b k 0 < n
@@ -60,18 +64,12 @@ module _ (s : Shape) (h : Sound s) (t : ℕ) where
       (cond_most (sized t) (bits 24 30 t)).1 (cond_most (chained (meant s) || long t) (bits 31 31 t)).0 (sym (mod-add-div t 16777216)) (bits_above t 24 7) (bits_above t 31 1) in
       omega (arith, z)
 
-unlike : {x y : Bool} → x ≡ y → not x ≡ true → y ≡ true → ⊥
-unlike {x} e h k = let z : x ≡ false = not-true x h in impossible (cc)
-
 -- ---- the code's ways
-module _ (l : List ℕ) (o n : ℕ) (s : Shape) (laid : Laid (at 2 (row_from o l)) s) (u : ℕ) (eu : u ≡ token_of_row (row_from o l)) where
-  abbrev q : List ℕ
-  q = row_from o l
-
+module _ (q : List ℕ) (n : ℕ) (s : Shape) (laid : Laid (at 2 q) s) (u : ℕ) (eu : u ≡ token_of_row q) where
   abbrev e : List ℕ
   e = head_of_row q
 
-  pub no_dword : 2 ^ 32 ≤ u → Decides (Pieces q n) false
+  pub no_dword : 2 ^ 32 ≤ u → Decides false (Pieces q n)
   no_dword h = fails (λ p.
       let z : u ≡ token_with (code u) (fields_of (meant s) u) = rw (laid.meaning, eu) p.token in
       let k = token_below s laid.sound u z in
@@ -91,71 +89,38 @@ module _ (l : List ℕ) (o n : ℕ) (s : Shape) (laid : Laid (at 2 (row_from o l
     told : Known → Pieces q n
     told p = rw (laid.meaning, of_row) at p
 
-    pub other_code : (t % 2048 ≡ get_or l (o + 2) 0 → ⊥) → Decides (Pieces q n) false
-    other_code h = fails (λ p. h (sym (known p).code_is ∙ row_at l o 2 (lit< tt)))
+    -- it has the row's code, and all that was asked of it holds
+    module _ (ec : t % 2048 ≡ at 2 q) (f : Fields) (ef : f ≡ fields_of (meant s) t) (b₁ : Bool) (e₁ : b₁ ≡ eqb t (token_with (code t) f)) (h₁ : b₁ ≡ true) (b₂ : Bool) (e₂ : b₂ ≡ in_bounds (field_of s) t) (h₂ : b₂ ≡ true)
+        (b₃ : Bool) (e₃ : b₃ ≡ classed s.kind t n) (h₃ : b₃ ≡ true) {b₄ : Bool} (d₄ : Decides b₄ (Fielded q f)) (h₄ : b₄ ≡ true) {p : Option ℕ} (d₅ : Counts (Headed q (layout (code t)) t e) (length e) p) (k : ℕ) (ek : p ≡ Some k) where
+      head_told : Told (Headed q (layout (code t)) t e) (length e) k
+      head_told = counted d₅ ek
 
-    module _ (ec : t % 2048 ≡ get_or l (o + 2) 0) where
-      pub code_is : at 2 q ≡ code t
-      code_is = row_at l o 2 (lit< tt) ∙ sym ec
+      same_layout : layout (code t) ≡ meant s
+      same_layout = ap layout ec ∙ sym laid.meaning
 
-      pub kind_is : s.kind ≡ (layout (code t)).kind
-      kind_is = ap (λ (x : Layout). x.kind) laid.meaning ∙ ap (λ (c : ℕ). (layout c).kind) code_is
+      -- the length, whether it is in the token or in the next dword
+      length_is : length_of t e ≡ cond (sized t) (at 1 q) (bits 24 30 t)
+      unfolding length_of
+      length_is = go (sized t) refl
+        where
+          go : (b : Bool) → sized t ≡ b → cond b (get_or e 0 0) (bits 24 30 t) ≡ cond b (at 1 q) (bits 24 30 t)
+          go true y = rw (sized_dword q t (sym ec) y head_told.is)
+          go false y = refl
 
-      module _ (f : Fields) (ef : f ≡ fields_of (meant s) t) (b₁ : Bool) (e₁ : b₁ ≡ eqb t (token_with (code t) f)) where
-        pub inexact : not b₁ ≡ true → Decides (Pieces q n) false
-        inexact h = fails (λ p. unlike e₁ h (rw ef (eq-eqb t _ (known p).token)))
+      size_is : 1 + k + n ≡ 1 + length e + n
+      size_is = ap (λ (j : ℕ). 1 + j + n) (sym head_told.size)
 
-        module _ (h₁ : not b₁ ≡ false) (b₂ : Bool) (e₂ : b₂ ≡ in_bounds (field_of s) t) where
-          pub unbounded : not b₂ ≡ true → Decides (Pieces q n) false
-          unbounded h = fails (λ p. unlike e₂ h (known p).bounds)
-
-          module _ (h₂ : not b₂ ≡ false) (b₃ : Bool) (e₃ : b₃ ≡ classed s.kind t n) where
-            pub unclassed : not b₃ ≡ true → Decides (Pieces q n) false
-            unclassed h = fails (λ p. unlike e₃ h (known p).class)
-
-            module _ (h₃ : not b₃ ≡ false) {b₄ : Bool} (d₄ : Decides (Fielded q f) b₄) where
-              pub other_fields : not b₄ ≡ true → Decides (Pieces q n) false
-              other_fields h = fails (λ p. refused d₄ (not-true b₄ h) (rw ef (known p).fields_are))
-
-              module _ (h₄ : not b₄ ≡ false) {p : Place} (d₅ : Counts (Headed q (layout (code t)) t e) (length e) p) where
-                same_layout : layout (code t) ≡ meant s
-                same_layout = ap layout (sym code_is) ∙ sym laid.meaning
-
-                pub no_head : p ≡ Off → Decides (Pieces q n) false
-                no_head h = go d₅ h
-                  where
-                    go : {p : Place} → Counts (Headed q (layout (code t)) t e) (length e) p → p ≡ Off → Decides (Pieces q n) false
-                    go (are k a) z = impossible (cc)
-                    go (none_are g) z = fails (λ p. g (rw same_layout (known p).head))
-
-                module _ (k : ℕ) (ek : p ≡ At k) where
-                  head_told : Told (Headed q (layout (code t)) t e) (length e) k
-                  head_told = counted d₅ ek
-
-                  pub few : k ≤ 3
-                  few = head_told.few
-
-                  -- the length, whether it is in the token or in the next dword
-                  length_is : (j : ℕ) → get_or l (o + 1) 0 ≡ j → length_of t e ≡ cond (sized t) j (bits 24 30 t)
-                  unfolding length_of
-                  length_is j z = go (sized t) refl
-                    where
-                      go : (b : Bool) → sized t ≡ b → cond b (get_or e 0 0) (bits 24 30 t) ≡ cond b j (bits 24 30 t)
-                      go true y = rw (sized_dword q t code_is y head_told.is) (row_at l o 1 (lit< tt) ∙ z)
-                      go false y = refl
-
-                  pub decided : {b : Bool} → Decides (Sized (get_or l (o + 1) 0) t (1 + k + n)) b → Decides (Pieces q n) b
-                  decided (holds z) = holds (told (record {
-                    token = eqb-true t _ (rw (← ef) (sym e₁ ∙ not-false b₁ h₁));
-                    bounds = sym e₂ ∙ not-false b₂ h₂;
-                    class = sym e₃ ∙ not-false b₃ h₃;
-                    size = length_is (get_or l (o + 1) 0) refl ∙ z.token_is ∙ ap (λ (j : ℕ). 1 + j + n) (sym head_told.size);
-                    dwords_are = row_at l o 1 (lit< tt) ∙ z.row_is ∙ ap (λ (j : ℕ). 1 + j + n) (sym head_told.size);
-                    code_is = code_is;
-                    fields_are = rw (← ef) (granted d₄ (not-false b₄ h₄));
-                    head = rw (← same_layout) head_told.is;
-                  }))
-                  decided (fails g) = fails (λ p. g (record {
-                    row_is = sym (row_at l o 1 (lit< tt)) ∙ (known p).dwords_are ∙ ap (λ (j : ℕ). 1 + j + n) head_told.size;
-                    token_is = sym (length_is (get_or l (o + 1) 0) refl) ∙ (known p).size ∙ ap (λ (j : ℕ). 1 + j + n) head_told.size;
-                  }))
+      pub decided : {b : Bool} → Decides b (Sized (at 1 q) t (1 + k + n)) → Decides b (Pieces q n)
+      decided {b} d = Decides-like b
+          (λ z. told (record {
+            token = eqb-true t _ (rw (← ef) (sym e₁ ∙ h₁));
+            bounds = sym e₂ ∙ h₂;
+            class = sym e₃ ∙ h₃;
+            size = length_is ∙ z.token_is ∙ size_is;
+            dwords_are = z.row_is ∙ size_is;
+            code_is = sym ec;
+            fields_are = rw (← ef) (d₄.0 h₄);
+            head = rw (← same_layout) head_told.is;
+          }))
+          (λ p. record { row_is = (known p).dwords_are ∙ sym size_is; token_is = sym length_is ∙ (known p).size ∙ sym size_is })
+          d

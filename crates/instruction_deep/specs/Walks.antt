@@ -1,6 +1,6 @@
 -- What walking over the rows and words of an instruction answers.
-use Rattle.std.specs.Prelude.{ℕ, ◌+◌, ◌-◌, ◌*◌, ◌/◌, ◌%◌, ◌^◌, ◌≤◌, ◌≡◌, List, ◌++◌, Bool, true, false, cond, length, take, drop, replicate, leb}
-use Rattle.std.proofs.Math.Option.{Option, none as nothing, some as just}
+use Rattle.std.specs.Prelude.{ℕ, ◌+◌, ◌-◌, ◌*◌, ◌/◌, ◌%◌, ◌^◌, ◌≤◌, ◌≡◌, List, ◌++◌, Bool, true, cond, length, drop, replicate, leb, Option, Some, None}
+use Rattle.std.proofs.Math.Option.{Option as Maybe, none as nothing, some as just}
 use Rattle.format.specs.Dwords.{bits}
 use Rattle.format.specs.Framing.{code, long, sized, length_of}
 use Rattle.format.specs.Counts.{Fields, token_with, rising, of_type, type_bits}
@@ -11,18 +11,22 @@ use Rattle.format.specs.Instructions.{Instruction, fields_of, extensions, dwords
 use Rattle.format.specs.Rows.{parts_rows, parts_words, top_level, parts}
 use Rattle.format.specs.Encoder.{at, chain_of, token_of_row, head_of_row}
 use Rattle.instruction_fields.specs.Fields.{classed}
-use Rattle.instruction_fields.specs.declared.Place.{Place}
-use Rattle.instruction_fields.specs.declared.Place.TheVariants.{At, Off}
 use Rattle.instruction_deep.specs.Confirm.{confirm_items, linked, head_taken}
 use Rattle.instruction_deep.specs.declared.Walked.{Walked}
-use Rattle.instruction_deep.specs.declared.Walked.TheVariants.{Is, Not}
 use Rattle.instruction_deep.specs.declared.Parts.{Parts}
-use Rattle.instruction_deep.specs.declared.Parts.TheVariants.{To, Lost}
+
+-- so many operand rows and dwords
+abbrev pub some_walked : ℕ → ℕ → Option Walked
+some_walked r n = Some (record { rows = r; dwords = n })
 
 -- the sizes of the instruction
-abbrev pub walked_instruction : Option Instruction → Walked
-walked_instruction nothing = Not
-walked_instruction (just i) = Is (parts_rows (parts i)) (length (dwords i))
+abbrev pub walked_instruction : Maybe Instruction → Option Walked
+walked_instruction nothing = None
+walked_instruction (just i) = some_walked (parts_rows (parts i)) (length (dwords i))
+
+-- parts that end before an operand row and a word, of so many dwords
+abbrev pub some_parts : ℕ → ℕ → ℕ → Option Parts
+some_parts r w n = Some (record { row = r; word = w; dwords = n })
 
 -- what items come to: rows, words, dwords and top-level operands; or their rows and words are not there
 pub data Sum : Type 0 where
@@ -33,7 +37,7 @@ abbrev pub add : ℕ → ℕ → ℕ → ℕ → Sum → Sum
 add r w d k off = off
 add r w d k (sum r₁ w₁ d₁ k₁) = sum (r + r₁) (w + w₁) (d + d₁) (k + k₁)
 
-abbrev pub total : Option (List Tree) → Sum
+abbrev pub total : Maybe (List Tree) → Sum
 total nothing = off
 total (just ps) = sum (parts_rows ps) (length (parts_words ps)) (length (op.parts_dwords ps)) (top_level ps)
 
@@ -42,39 +46,30 @@ unfoldable pub sum_at : Bool → List Item → List ℕ → List ℕ → ℕ →
 sum_at m l rs ws r w = total (confirm_items m l (drop (16 * r) rs) (drop w ws) r w)
 
 -- items of k operands stand between two places, whatever items follow; or not
-pub data Takes (m : Bool) (items : List Item) (k : ℕ) (rs ws : List ℕ) (r w : ℕ) : Parts → Type 0 where
-  takes : {r₁ w₁ n : ℕ} → r ≤ r₁ → r₁ ≤ r + (length rs / 16 - r) → w ≤ w₁ → w₁ ≤ length ws → n ≤ 2 * (r₁ - r) + (w₁ - w) →
-      ((l : List Item) → sum_at m (items ++ l) rs ws r w ≡ add (r₁ - r) (w₁ - w) n k (sum_at m l rs ws r₁ w₁)) → Takes m items k rs ws r w (To r₁ w₁ n)
-  lacks : ((l : List Item) → sum_at m (items ++ l) rs ws r w ≡ off) → Takes m items k rs ws r w Lost
+pub data Takes (m : Bool) (items : List Item) (k : ℕ) (rs ws : List ℕ) (r w : ℕ) : Option Parts → Type 0 where
+  takes : {p : Parts} → r ≤ p.row → p.row ≤ r + (length rs / 16 - r) → w ≤ p.word → p.word ≤ length ws → p.dwords ≤ 2 * (p.row - r) + (p.word - w) →
+      ((l : List Item) → sum_at m (items ++ l) rs ws r w ≡ add (p.row - r) (p.word - w) p.dwords k (sum_at m l rs ws p.row p.word)) → Takes m items k rs ws r w (Some p)
+  lacks : ((l : List Item) → sum_at m (items ++ l) rs ws r w ≡ off) → Takes m items k rs ws r w None
 
 -- the same of items that are words as they are
-abbrev pub onward : ℕ → ℕ → Place → Parts
-onward r w Off = Lost
-onward r w (At w₁) = To r w₁ (w₁ - w)
+abbrev pub onward : ℕ → ℕ → Option ℕ → Option Parts
+onward r w None = None
+onward r w (Some w₁) = some_parts r w₁ (w₁ - w)
 
-abbrev pub PassesIn : Bool → List Item → List ℕ → ℕ → Place → Type 0
+abbrev pub PassesIn : Bool → List Item → List ℕ → ℕ → Option ℕ → Type 0
 PassesIn m items ws w p = (rs : List ℕ) (r : ℕ) → Takes m items 0 rs ws r w (onward r w p)
 
 -- in either model
-abbrev pub Passes : List Item → List ℕ → ℕ → Place → Type 0
+abbrev pub Passes : List Item → List ℕ → ℕ → Option ℕ → Type 0
 Passes items ws w p = (m : Bool) → PassesIn m items ws w p
 
 -- k words on, if there are so many
-abbrev pub words_on : ℕ → ℕ → ℕ → Place
-words_on n w k = cond (leb k (n - w)) (At (w + k)) Off
+abbrev pub words_on : ℕ → ℕ → ℕ → Option ℕ
+words_on n w k = cond (leb k (n - w)) (Some (w + k)) None
 
 -- k operands
-abbrev pub Runs : ℕ → List ℕ → List ℕ → ℕ → ℕ → Parts → Type 0
+abbrev pub Runs : ℕ → List ℕ → List ℕ → ℕ → ℕ → Option Parts → Type 0
 Runs k rs ws r w p = (m : Bool) → Takes m (replicate k o) k rs ws r w p
-
--- the row that begins at a place of a pool
-abbrev pub row_from : ℕ → List ℕ → List ℕ
-row_from i l = take 16 (drop i l)
-
--- the answer tells whether it holds
-pub data Decides (P : Type 0) : Bool → Type 0 where
-  holds : P → Decides P true
-  fails : (P → ⊥) → Decides P false
 
 -- words 8 to 11 of a row without a chain
 pub record Unchained (q : List ℕ) (n : ℕ) : Type 0 where
@@ -102,9 +97,9 @@ pub record Headed (q : List ℕ) (x : Layout) (t : ℕ) (e : List ℕ) : Type 0 
   pub third_is : at 11 q ≡ of_type 3 (extensions x e) % 2 ^ 31
 
 -- it holds, and so many dwords stand there; or it does not
-pub data Counts (P : Type 0) (n : ℕ) : Place → Type 0 where
-  are : n ≤ 3 → P → Counts P n (At n)
-  none_are : (P → ⊥) → Counts P n Off
+pub data Counts (P : Type 0) (n : ℕ) : Option ℕ → Type 0 where
+  are : n ≤ 3 → P → Counts P n (Some n)
+  none_are : (P → ⊥) → Counts P n None
 
 -- words 4 to 7 of a row are these fields
 pub record Fielded (q : List ℕ) (f : Fields) : Type 0 where

@@ -1,7 +1,7 @@
 // Walks the row of an instruction, the rows of its operands and its words, which anybody may have written: the general way.
 #![tactic(auto)]
 
-ghost use Rattle.std.specs.Prelude.{◌≡◌, [], suc, ◌+◌, ◌-◌, ◌*◌, ◌^◌, ◌<◌, ◌≤◌, true, cond, ◌&&◌, ◌||◌, length, get_or, drop, replicate, eqb, ltb};
+ghost use Rattle.std.specs.Prelude.{◌≡◌, [], suc, ◌+◌, ◌-◌, ◌*◌, ◌^◌, ◌<◌, ◌≤◌, cond, ◌&&◌, ◌||◌, length, get_or, drop, replicate, eqb, ltb, Decides};
 ghost use Rattle.format.specs.Framing as fr;
 ghost use Rattle.format.specs.Counts as ct;
 ghost use Rattle.format.specs.Declarations as dc;
@@ -9,128 +9,122 @@ ghost use Rattle.format.specs.Encoder as e;
 ghost use Rattle.layouts.specs.Shapes.{Sound, Laid, listed, items_of};
 ghost use Rattle.instruction_fields.specs.Fields.{Listed, rest, fields_in};
 ghost use Rattle.instruction_deep.specs.Confirm as c;
-ghost use Rattle.instruction_deep.specs.Walks.{walked_instruction, Takes, PassesIn, Passes, words_on, Runs, row_from, Decides, Counts, Unchained, Chained, Headed, Fielded, Sized, Pieces, Placed, Bare};
+ghost use Rattle.instruction_deep.specs.Walks.{walked_instruction, Takes, PassesIn, Passes, words_on, Runs, Counts, Unchained, Chained, Headed, Fielded, Sized, Pieces, Placed, Bare};
 
 use framing::{long, sized};
-use instruction_fields::{Fields, Place, exact_class, exact_token, extra, fields_of, list_length};
+use instruction_fields::{Fields, exact_class, exact_token, extra, fields_of, list_length};
 use layouts::{Shape, counted_layout, in_bounds, operand_count, uncounted_layout};
 
-// The operand rows and the dwords of the instruction that stands there; or these are not the rows and words of one.
-#[derive(Drop)]
-pub enum Walked {
-    Is { rows: usize, dwords: usize },
-    Not,
+// The operand rows and the dwords of an instruction.
+#[derive(Clone, Copy, Drop)]
+pub struct Walked {
+    pub rows: usize,
+    pub dwords: usize,
 }
 
-// The row and the word behind some items, and their dwords; or their rows and words are not there.
-#[derive(Drop)]
-pub enum Parts {
-    To(usize, usize, usize),
-    Lost,
-}
-
-// Widens a number to a size.
-pub fn wide(x: u32) -> usize
-    ensures { result ≡ x }
-{
-    x as usize
+// The row and the word behind some items, and their dwords.
+#[derive(Clone, Copy, Drop)]
+pub struct Parts {
+    pub row: usize,
+    pub word: usize,
+    pub dwords: usize,
 }
 
 // Past k words.
-pub fn past_words(words: &[u32], at: usize, k: u32) -> Place
+pub fn past_words(words: &[u32], at: usize, k: u32) -> Option<usize>
     requires { at ≤ length words.now }
     ensures { result ≡ words_on (length words.now) at k }
 {
-    let k = wide(k);
+    let k = k as usize;
     if words.len() - at < k {
-        return Place::Off;
+        return None;
     }
-    Place::At(at + k)
+    Some(at + k)
 }
 
 // Past a word under 65,536, if there is to be one.
-fn past_small(words: &[u32], at: usize, small: u32) -> Place
+fn past_small(words: &[u32], at: usize, small: u32) -> Option<usize>
     requires { (at ≤ length words.now) × (small ≤ 1) }
     ensures { Passes (replicate small dc.small) words.now at result }
 {
     if small == 0 {
-        return Place::At(at);
+        return Some(at);
     }
     if words.len() <= at {
-        return Place::Off;
+        return None;
     }
     if 65536 <= words[at] {
-        return Place::Off;
+        return None;
     }
-    Place::At(at + 1)
+    Some(at + 1)
 }
 
 // Past a list that is counted by so many bits of its first word, if there is to be one.
-fn past_list(words: &[u32], at: usize, bits: u32) -> Place
+fn past_list(words: &[u32], at: usize, bits: u32) -> Option<usize>
     requires { (at ≤ length words.now) × Listed bits }
     ensures { Passes (listed bits) words.now at result }
 {
     if bits == 0 {
-        return Place::At(at);
+        return Some(at);
     }
     let n = words.len();
     if n <= at {
-        return Place::Off;
+        return None;
     }
-    let k = wide(list_length(words[at], bits));
+    let k = list_length(words[at], bits) as usize;
     if n - at - 1 < k {
-        return Place::Off;
+        return None;
     }
-    Place::At(at + 1 + k)
+    Some(at + 1 + k)
 }
 
 // Past the items behind the operands.
-pub fn past_rest(words: &[u32], at: usize, s: Shape, model51: bool) -> Place
+pub fn past_rest(words: &[u32], at: usize, s: Shape, model51: bool) -> Option<usize>
     requires { (at ≤ length words.now) × Sound s }
     ensures { PassesIn model51 (rest s) words.now at result }
 {
-    let Place::At(a) = past_small(words, at, s.small) else {
-        return Place::Off;
-    };
-    let Place::At(b) = past_words(words, a, s.after + extra(s, model51)) else {
-        return Place::Off;
-    };
-    let Place::At(c) = past_list(words, b, s.list) else {
-        return Place::Off;
-    };
+    let a = past_small(words, at, s.small)?;
+    let b = past_words(words, a, s.after + extra(s, model51))?;
+    let c = past_list(words, b, s.list)?;
     if s.tail {
-        return Place::At(words.len());
+        return Some(words.len());
     }
-    Place::At(c)
+    Some(c)
 }
 
 // Walks so many operands, one after the other.
-pub fn operands_of(operands: &[u32], words: &[u32], row: usize, word: usize, count: u32) -> Parts
+pub fn operands_of(
+    operands: &[u32],
+    words: &[u32],
+    row: usize,
+    word: usize,
+    count: u32,
+) -> Option<Parts>
     requires { word ≤ length words.now }
     ensures { Runs count operands.now words.now row word result }
 {
-    let mut r = row;
-    let mut w = word;
-    let mut n = 0;
-    let mut i = 0;
-    while i < count {
+    let mut past = Parts {
+        row,
+        word,
+        dwords: 0,
+    };
+    for i in 0..count {
         let operand_deep::Walked::Is {
             rows,
             words: k,
             dwords,
-        } = operand_walk::walk(operands, words, r, w, 64)
+        } = operand_walk::walk(operands, words, past.row, past.word, 64)
         else {
-            return Parts::Lost;
+            return None;
         };
-        r += rows;
-        w += k;
-        n += dwords;
-        i += 1;
+        past.row += rows;
+        past.word += k;
+        past.dwords += dwords;
     }
-    Parts::To(r, w, n)
+    Some(past)
 }
 
-// Walks the items of a shape. The pools are lent afresh for the operands, which leaves these in registers.
+// Walks the items of a shape.
 fn parts_of(
     operands: &[u32],
     words: &[u32],
@@ -138,37 +132,18 @@ fn parts_of(
     word: usize,
     s: Shape,
     model51: bool,
-) -> Parts
+) -> Option<Parts>
     requires { (word ≤ length words.now) × Sound s }
     ensures { Takes model51 (items_of s) s.operands operands.now words.now row word result }
 {
-    let Place::At(a) = past_words(words, word, s.before) else {
-        return Parts::Lost;
-    };
-    let rows = &operands[0..operands.len()];
-    let all = &words[0..words.len()];
-    let Parts::To(r, b, n) = operands_of(rows, all, row, a, s.operands) else {
-        return Parts::Lost;
-    };
-    let Place::At(w) = past_rest(words, b, s, model51) else {
-        return Parts::Lost;
-    };
-    Parts::To(r, w, a - word + n + (w - b))
-}
-
-// Widens a number, so that a sum of shifted numbers fits.
-fn far(x: u32) -> u64
-    ensures { result ≡ x }
-{
-    x as u64
-}
-
-// Narrows a number that fits.
-fn narrow(x: u64) -> u32
-    requires { x < 2 ^ 32 }
-    ensures { result ≡ x }
-{
-    x as u32
+    let a = past_words(words, word, s.before)?;
+    let past = operands_of(operands, words, row, a, s.operands)?;
+    let end = past_rest(words, past.word, s, model51)?;
+    Some(Parts {
+        row: past.row,
+        word: end,
+        dwords: a - word + past.dwords + (end - past.word),
+    })
 }
 
 // The layout of a code.
@@ -186,13 +161,7 @@ fn shape_of(code: u32) -> Shape
 fn sized_row(code: u32, bits: u32) -> bool
     ensures { result ≡ (eqb code 53 || (eqb code 145 || eqb code 146) && ltb 0 bits) }
 {
-    if code == 53 {
-        return true;
-    }
-    if (code == 145) | (code == 146) {
-        return 0 < bits;
-    }
-    false
+    code == 53 || (code == 145 || code == 146) && 0 < bits
 }
 
 // The length in the token of a row of n dwords.
@@ -202,40 +171,30 @@ fn own_length(sized: bool, n: u32) -> u32
     if sized { 0 } else { n }
 }
 
-// Bit 31 of the token of a row with these extension bits.
-pub fn extended(bits: u32) -> u32
-    ensures { result ≡ cond (ltb 0 bits) 1 0 }
-{
-    if 0 < bits { 1 } else { 0 }
-}
-
 // Makes a token from its code and its fields. It is no dword where the numbers are too large.
 fn pack(code: u32, f: Fields) -> u64
     ensures { result ≡ ct.token_with code (fields_in f) }
 {
-    let low = far(code) + far(f.field) * 0x800 + far(f.saturate) * 0x2000;
-    let mid = low + far(f.test) * 0x4_0000 + far(f.precise) * 0x8_0000;
-    mid + far(f.length) * 0x100_0000 + far(f.extended) * 0x8000_0000
+    let low = u64::from(code) + u64::from(f.field) * 0x800 + u64::from(f.saturate) * 0x2000;
+    let mid = low + u64::from(f.test) * 0x4_0000 + u64::from(f.precise) * 0x8_0000;
+    mid + u64::from(f.length) * 0x100_0000 + u64::from(f.extended) * 0x8000_0000
 }
 
 // Makes the token that a row tells.
-fn token_of(instructions: &[u32], first: usize) -> u64
-    requires { first + 16 ≤ length instructions.now }
-    ensures { result ≡ e.token_of_row (row_from first instructions.now) }
+fn token_of(instruction: &[u32; 16]) -> u64
+    ensures { result ≡ e.token_of_row instruction.now }
 {
-    let code = instructions[first + 2];
-    let bits = instructions[first + 8];
-    let n = own_length(sized_row(code, bits), instructions[first + 1]);
-    let x = extended(bits);
+    let code = instruction[2];
+    let bits = instruction[8];
     pack(
         code,
         Fields {
-            field: instructions[first + 7],
-            saturate: instructions[first + 4],
-            test: instructions[first + 5],
-            precise: instructions[first + 6],
-            length: n,
-            extended: x,
+            field: instruction[7],
+            saturate: instruction[4],
+            test: instruction[5],
+            precise: instruction[6],
+            length: own_length(sized_row(code, bits), instruction[1]),
+            extended: u32::from(0 < bits),
         },
     )
 }
@@ -244,10 +203,7 @@ fn token_of(instructions: &[u32], first: usize) -> u64
 fn first_fits(there: u32, x: u32) -> bool
     ensures { result ≡ ltb x (cond (eqb there 0) 1 4096) }
 {
-    if there == 0 {
-        return x < 1;
-    }
-    x < 4096
+    x < if there == 0 { 1 } else { 4096 }
 }
 
 // Whether a chain's word of another type is told by its row: 31 bits of that type, or 0 where it is not there.
@@ -255,49 +211,39 @@ fn other_fits(there: u32, kind: u32, x: u32) -> bool
     ensures { result ≡ cond (eqb there 0) (eqb x 0) (ltb x 2147483648 && eqb (ct.extension_type x) kind) }
 {
     if there == 0 {
-        return x == 0;
+        x == 0
+    } else {
+        x < 0x8000_0000 && x % 64 == kind
     }
-    (x < 0x8000_0000) & (x % 64 == kind)
 }
 
-// How many dwords the chain has that words 8 to 11 of a row tell, after a token whose bit 31 says whether there is one.
-pub fn chained(bit: u32, n: u32, u: u32, a: u32, b: u32) -> Place
-    requires { bit < 2 }
-    ensures { Counts (Chained (eqb bit 1) n u a b) (length (e.chain_of n u a b)) result }
+// How many dwords the chain has that words 8 to 11 of a row tell, after a token that says whether there is one.
+pub fn chained(there: bool, n: u32, u: u32, a: u32, b: u32) -> Option<usize>
+    ensures { Counts (Chained there n u a b) (length (e.chain_of n u a b)) result }
 {
-    if bit != extended(n) {
-        return Place::Off;
+    if there != (0 < n) {
+        return None;
     }
     if 8 <= n {
-        return Place::Off;
+        return None;
     }
     if !first_fits(n % 2, u) {
-        return Place::Off;
+        return None;
     }
     if !other_fits(n / 2 % 2, 2, a) {
-        return Place::Off;
+        return None;
     }
     if !other_fits(n / 4, 3, b) {
-        return Place::Off;
+        return None;
     }
-    Place::At(wide(n % 2 + n / 2 % 2 + n / 4))
+    Some((n % 2 + n / 2 % 2 + n / 4) as usize)
 }
 
 // Whether a row tells of no chain, with these extension bits.
-fn unchained(instructions: &[u32], first: usize, bits: u32) -> bool
-    requires { first + 16 ≤ length instructions.now }
-    ensures { Decides (Unchained (row_from first instructions.now) bits) result }
+fn unchained(instruction: &[u32; 16], bits: u32) -> bool
+    ensures { Decides result (Unchained instruction.now bits) }
 {
-    if instructions[first + 8] != bits {
-        return false;
-    }
-    if instructions[first + 9] != 0 {
-        return false;
-    }
-    if instructions[first + 10] != 0 {
-        return false;
-    }
-    instructions[first + 11] == 0
+    instruction[8] == bits && instruction[9] == 0 && instruction[10] == 0 && instruction[11] == 0
 }
 
 // The extension bits of a token whose length is in the next dword.
@@ -308,72 +254,51 @@ fn long_bits(t: u32) -> u32
 }
 
 // How many dwords stand after the token t, as words 8 to 11 of its row say.
-fn head(instructions: &[u32], first: usize, kind: u32, t: u32) -> Place
-    requires { (first + 16 ≤ length instructions.now) × (e.at 2 (row_from first instructions.now) ≡ fr.code t) × (kind ≡ (dc.layout (fr.code t)).kind) }
-    ensures { Counts (Headed (row_from first instructions.now) (dc.layout (fr.code t)) t (e.head_of_row (row_from first instructions.now))) (length (e.head_of_row (row_from first instructions.now))) result }
+fn head(instruction: &[u32; 16], kind: u32, t: u32) -> Option<usize>
+    requires { (e.at 2 instruction.now ≡ fr.code t) × (kind ≡ (dc.layout (fr.code t)).kind) }
+    ensures { Counts (Headed instruction.now (dc.layout (fr.code t)) t (e.head_of_row instruction.now)) (length (e.head_of_row instruction.now)) result }
 {
     if sized(t) {
-        if unchained(instructions, first, long_bits(t)) {
-            return Place::At(1);
-        }
-        return Place::Off;
+        return unchained(instruction, long_bits(t)).then_some(1);
     }
     if kind < 3 {
         return chained(
-            t / 0x8000_0000 % 2,
-            instructions[first + 8],
-            instructions[first + 9],
-            instructions[first + 10],
-            instructions[first + 11],
+            t / 0x8000_0000 % 2 == 1,
+            instruction[8],
+            instruction[9],
+            instruction[10],
+            instruction[11],
         );
     }
-    if unchained(instructions, first, 0) {
-        return Place::At(0);
-    }
-    Place::Off
+    unchained(instruction, 0).then_some(0)
 }
 
 // Whether words 4 to 7 of a row are these fields.
-fn same_fields(instructions: &[u32], first: usize, f: Fields) -> bool
-    requires { first + 16 ≤ length instructions.now }
-    ensures { Decides (Fielded (row_from first instructions.now) (fields_in f)) result }
+fn same_fields(instruction: &[u32; 16], f: Fields) -> bool
+    ensures { Decides result (Fielded instruction.now (fields_in f)) }
 {
-    if instructions[first + 4] != f.saturate {
-        return false;
-    }
-    if instructions[first + 5] != f.test {
-        return false;
-    }
-    if instructions[first + 6] != f.precise {
-        return false;
-    }
-    instructions[first + 7] == f.field
+    instruction[4] == f.saturate
+        && instruction[5] == f.test
+        && instruction[6] == f.precise
+        && instruction[7] == f.field
 }
 
 // Whether a row's length is that of its dwords, and the token's, where it is not in the next dword.
 fn same_length(n: u32, t: u32, dwords: usize) -> bool
-    ensures { Decides (Sized n t dwords) result }
+    ensures { Decides result (Sized n t dwords) }
 {
-    if wide(n) != dwords {
-        return false;
-    }
-    if sized(t) {
-        return true;
-    }
-    wide(t / 0x100_0000 % 128) == dwords
+    n as usize == dwords && (sized(t) || (t / 0x100_0000 % 128) as usize == dwords)
 }
 
 // Whether a row of a shape tells a token, and what stands after it, that are exact before so many dwords of parts.
-fn pieces(instructions: &[u32], first: usize, s: Shape, dwords: usize) -> bool
-    requires { (first + 16 ≤ length instructions.now) × Laid (e.at 2 (row_from first instructions.now)) s × (dwords < 2 ^ 63) }
-    ensures { Decides (Pieces (row_from first instructions.now) dwords) result }
+fn pieces(instruction: &[u32; 16], s: Shape, dwords: usize) -> bool
+    requires { Laid (e.at 2 instruction.now) s × (dwords < 2 ^ 63) }
+    ensures { Decides result (Pieces instruction.now dwords) }
 {
-    let token = token_of(instructions, first);
-    if 0x1_0000_0000 <= token {
+    let Ok(t) = u32::try_from(token_of(instruction)) else {
         return false;
-    }
-    let t = narrow(token);
-    if t % 2048 != instructions[first + 2] {
+    };
+    if t % 2048 != instruction[2] {
         return false;
     }
     let f = fields_of(s, t);
@@ -386,19 +311,18 @@ fn pieces(instructions: &[u32], first: usize, s: Shape, dwords: usize) -> bool
     if !exact_class(s.kind, t, dwords) {
         return false;
     }
-    if !same_fields(instructions, first, f) {
+    if !same_fields(instruction, f) {
         return false;
     }
-    let Place::At(k) = head(instructions, first, s.kind, t) else {
+    let Some(k) = head(instruction, s.kind, t) else {
         return false;
     };
-    same_length(instructions[first + 1], t, 1 + k + dwords)
+    same_length(instruction[1], t, 1 + k + dwords)
 }
 
 // Whether a row tells this place, kind, first operand row, number of operands, first word and number of words.
 pub fn placed(
-    instructions: &[u32],
-    first: usize,
+    instruction: &[u32; 16],
     place: usize,
     kind: u32,
     row: usize,
@@ -406,64 +330,42 @@ pub fn placed(
     word: usize,
     words: usize,
 ) -> bool
-    requires { first + 16 ≤ length instructions.now }
-    ensures { Decides (Placed (row_from first instructions.now) place kind row operands word words) result }
+    ensures { Decides result (Placed instruction.now place kind row operands word words) }
 {
-    if wide(instructions[first]) != place {
-        return false;
-    }
-    if instructions[first + 3] != kind {
-        return false;
-    }
-    if wide(instructions[first + 12]) != row {
-        return false;
-    }
-    if instructions[first + 13] != operands {
-        return false;
-    }
-    if wide(instructions[first + 14]) != word {
-        return false;
-    }
-    wide(instructions[first + 15]) == words
+    instruction[0] as usize == place
+        && instruction[3] == kind
+        && instruction[12] as usize == row
+        && instruction[13] == operands
+        && instruction[14] as usize == word
+        && instruction[15] as usize == words
 }
 
 // Walks an instruction of a known code.
 pub fn known(
-    instructions: &[u32],
-    first: usize,
+    instruction: &[u32; 16],
     place: usize,
     model51: bool,
     operands: &[u32],
     row: usize,
     words: &[u32],
     word: usize,
-) -> Walked
-    requires { (first + 16 ≤ length instructions.now) × (word ≤ length words.now) }
-    ensures { result ≡ walked_instruction (c.confirm_known model51 (row_from first instructions.now) place (drop (16 * row) operands.now) (drop word words.now) row word) }
+) -> Option<Walked>
+    requires { word ≤ length words.now }
+    ensures { result ≡ walked_instruction (c.confirm_known model51 instruction.now place (drop (16 * row) operands.now) (drop word words.now) row word) }
 {
-    let s = shape_of(instructions[first + 2]);
-    let Parts::To(r, w, n) = parts_of(operands, words, row, word, s, model51) else {
-        return Walked::Not;
-    };
-    if !placed(
-        instructions,
-        first,
-        place,
-        s.kind,
-        row,
-        s.operands,
-        word,
-        w - word,
-    ) {
-        return Walked::Not;
+    let s = shape_of(instruction[2]);
+    let past = parts_of(operands, words, row, word, s, model51)?;
+    let n = past.word - word;
+    if !placed(instruction, place, s.kind, row, s.operands, word, n) {
+        return None;
     }
-    if !pieces(instructions, first, s, n) {
-        return Walked::Not;
+    if !pieces(instruction, s, past.dwords) {
+        return None;
     }
-    Walked::Is {
-        rows: r - row,
-        dwords: wide(instructions[first + 1]),
-    }
+    Some(Walked {
+        rows: past.row - row,
+        dwords: instruction[1] as usize,
+    })
 }
 
 // The length of the instruction whose dwords are the words from a word on, as they tell it.
@@ -473,66 +375,55 @@ fn own_size(words: &[u32], word: usize) -> usize
 {
     let t = words[word];
     if !sized(t) {
-        return wide(t / 0x100_0000 % 128);
+        return (t / 0x100_0000 % 128) as usize;
     }
     if words.len() <= word + 1 {
         return 0;
     }
-    wide(words[word + 1])
+    words[word + 1] as usize
 }
 
 // Whether a row tells this number of dwords and this code, and no field or extension.
-fn bare(instructions: &[u32], first: usize, dwords: usize, code: u32) -> bool
-    requires { first + 16 ≤ length instructions.now }
-    ensures { Decides (Bare (row_from first instructions.now) dwords code) result }
+fn bare(instruction: &[u32; 16], dwords: usize, code: u32) -> bool
+    ensures { Decides result (Bare instruction.now dwords code) }
 {
-    if wide(instructions[first + 1]) != dwords {
-        return false;
-    }
-    if instructions[first + 2] != code {
-        return false;
-    }
-    if !same_fields(
-        instructions,
-        first,
-        Fields {
-            field: 0,
-            saturate: 0,
-            test: 0,
-            precise: 0,
-            length: 0,
-            extended: 0,
-        },
-    ) {
-        return false;
-    }
-    unchained(instructions, first, 0)
+    let none = Fields {
+        field: 0,
+        saturate: 0,
+        test: 0,
+        precise: 0,
+        length: 0,
+        extended: 0,
+    };
+    instruction[1] as usize == dwords
+        && instruction[2] == code
+        && same_fields(instruction, none)
+        && unchained(instruction, 0)
 }
 
 // Walks an instruction that is unread: its words are its dwords.
 pub fn unread(
-    instructions: &[u32],
-    first: usize,
+    instruction: &[u32; 16],
     place: usize,
     row: usize,
     words: &[u32],
     word: usize,
-) -> Walked
-    requires { (first + 16 ≤ length instructions.now) × (word ≤ length words.now) }
-    ensures { result ≡ walked_instruction (c.confirm_unread (row_from first instructions.now) place [] (drop word words.now) row word) }
+) -> Option<Walked>
+    requires { word ≤ length words.now }
+    ensures { result ≡ walked_instruction (c.confirm_unread instruction.now place [] (drop word words.now) row word) }
 {
     let n = words.len() - word;
     if n == 0 {
-        return Walked::Not;
+        return None;
     }
     if own_size(words, word) != n {
-        return Walked::Not;
+        return None;
     }
-    if !bare(instructions, first, n, words[word] % 2048) {
-        return Walked::Not;
+    if !bare(instruction, n, words[word] % 2048) {
+        return None;
     }
-    if placed(instructions, first, place, 0, row, 0, word, n) {
-        return Walked::Is { rows: 0, dwords: n };
+    if !placed(instruction, place, 0, row, 0, word, n) {
+        return None;
     }
-    Walked::Not
+    Some(Walked { rows: 0, dwords: n })
 }
