@@ -1,6 +1,6 @@
 -- The dwords of an exact instruction fit 32 bits, where its words and its length do.
-use Prim.Native.Nat.{ℕ, suc, ◌+◌, ◌*◌, ◌%◌, ◌^◌, ◌<◌, ◌≤◌}
-use mathlib.Core.Path.{◌≡◌, refl, sym}
+use Prim.Native.Nat.{ℕ, suc, ◌+◌, ◌*◌, ◌%◌, ◌^◌, ◌<◌}
+use mathlib.Core.Path.{◌≡◌}
 use mathlib.Core.Bool.{Bool, true, false, cond, ◌&&◌}
 use mathlib.Core.List.{List, [], ◌∷◌, ◌++◌}
 use native.Mathlib.Omega.{arith}
@@ -19,7 +19,7 @@ use Rattle.format.proofs.Dwords.{impossible, both}
 use Rattle.format.proofs.Chains.{rose}
 use Rattle.format.proofs.Made.{exact_node}
 use Rattle.format.proofs.Room.{Fit, empty, also, fit_append, fit_front, fit_back}
-use Rattle.operand_deep.proofs.Fields.{no_wide, of_none, no_long, of_one}
+use Rattle.operand_deep.proofs.Fields.{exact_below, extension_below}
 use Rattle.instruction_deep.specs.Confirm.{linked, head_taken}
 
 -- ---- numbers that fit, by their places
@@ -27,27 +27,10 @@ pub fit_each : (l : List ℕ) → ((i : ℕ) → i < length l → get_or l i 0 <
 fit_each [] f = empty
 fit_each (x ∷ l) f = also x (f 0 (omega arith)) (fit_each l (λ i h. f (suc i) (omega arith)))
 
--- ---- an operand: wide dwords are no guess
-not_wide : (t : ℕ) → op.exact_dword t ≡ true → 2 ^ 32 ≤ t → ⊥
-not_wide t h z =
-    let e = no_wide t 0 z in
-    let f = of_none t 0 t refl true (sym h) refl refl in
-    impossible (cc)
-
-zero_exact : true ≡ op.exact_dword 0
-unfolding op.exact_dword op.form op.selection op.reprs
-zero_exact = refl
-
-not_long : (x : ℕ) → op.exact_extension (x ∷ []) ≡ true → 2 ^ 32 ≤ x → ⊥
-not_long x h z =
-    let n : x ≡ 0 → ⊥ = λ e. omega arith in
-    let e = no_long 0 x 0 refl true zero_exact refl n z in
-    let f = of_one 0 x 0 refl true zero_exact refl n x refl true (sym h) refl in
-    impossible (cc)
-
+-- ---- an operand: what is exact is a dword
 fit_extension : (e : List ℕ) → op.exact_extension e ≡ true → Fit e
 fit_extension [] h = empty
-fit_extension (x ∷ []) h = also x (omega (arith, not_long x h)) empty
+fit_extension (x ∷ []) h = also x (extension_below x h) empty
 fit_extension (x ∷ y ∷ l) h = unfold op.exact_extension in impossible (cc)
 
 fit_tree : (x : Tree) → op.exact x ≡ true → Fit (tree_words x) → Fit (op.dwords x)
@@ -58,7 +41,7 @@ fit_tree (node t e m a b c) h f =
     let x = exact_node t e m a b c h in
     let f₁ = fit_front (m ++ tree_words a ++ tree_words b) (tree_words c) f in
     let f₂ = fit_front (m ++ tree_words a) (tree_words b) f₁ in
-    also t (omega (arith, not_wide t x.token))
+    also t (exact_below t x.token)
     (fit_append (fit_append (fit_append (fit_append (fit_extension e x.extension) (fit_front m (tree_words a) f₂)) (fit_tree a x.first (fit_back m (tree_words a) f₂))) (fit_tree b x.second (fit_back (m ++ tree_words a) (tree_words b) f₁))) (fit_tree c x.third (fit_back (m ++ tree_words a ++ tree_words b) (tree_words c) f)))
 
 pub fit_parts : (ps : List Tree) → op.exact_parts ps ≡ true → Fit (parts_words ps) → Fit (op.parts_dwords ps)

@@ -1,5 +1,5 @@
 -- What stands after a token, as words 8 to 11 of its row tell it.
-use Prim.Native.Nat.{ℕ, ◌+◌, ◌<◌, ◌≤◌}
+use Prim.Native.Nat.{ℕ, ◌+◌, ◌≤◌}
 use mathlib.Core.Path.{◌≡◌, refl, sym, ap, ◌∙◌, subst}
 use mathlib.Core.List.{List, [], ◌∷◌}
 use mathlib.Core.Bool.{Bool, true, false, cond, ◌&&◌, ◌||◌}
@@ -8,7 +8,7 @@ use native.Mathlib.Nat.{add-zero}
 use native.Mathlib.Omega.{arith}
 use lib.ListN.{length}
 use lib.Dec.{eqb, ltb}
-use borrow.Author.Tests.{eqb-true, lt-ltb, le-ltb}
+use borrow.Author.Tests.{eqb-true}
 use Rattle.format.specs.Dwords.{bits, follows}
 use Rattle.format.specs.Framing.{code, long, sized}
 use Rattle.format.specs.Counts.{numbers, within, line_of, operand_count, rising, of_type, type_bits}
@@ -167,15 +167,15 @@ module _ (q : List ℕ) (t : ℕ) (ec : at 2 q ≡ code t) (b : Bool) (eb : b �
       counts_if u (subst (λ (n : ℕ). Decides u (Unchained q n)) en d) (omega arith) (sized_head q t ec z) (unchained_of q t ec (sized_chainless t z)) (λ a. sym (ap length (one_dword_lem q t ec z a)))
 
   module _ (h : b ≡ false) (kind : ℕ) (ek : kind ≡ (layout (code t)).kind) where
-    pub by_chain : kind < 3 → {p : Option ℕ} → Counts (Chained (eqb (bits 31 31 t) 1) (at 8 q) (at 9 q) (at 10 q) (at 11 q)) (length (chain_of (at 8 q) (at 9 q) (at 10 q) (at 11 q))) p → Answers p
+    pub by_chain : ltb kind 3 ≡ true → {p : Option ℕ} → Counts (Chained (eqb (bits 31 31 t) 1) (at 8 q) (at 9 q) (at 10 q) (at 11 q)) (length (chain_of (at 8 q) (at 9 q) (at 10 q) (at 11 q))) p → Answers p
     unfolding follows
     by_chain k {p} c =
         let z : sized t ≡ false = sym eb ∙ h in
-        let y : chained (layout (code t)) ≡ true = lt-ltb (layout (code t)).kind 3 (omega (arith, k, ek)) in
+        let y : chained (layout (code t)) ≡ true = ap (λ (j : ℕ). ltb j 3) (sym ek) ∙ k in
         counts_as (chain_head q t ec z y) (head_chain q t ec z y) (ap length (sym (a_chain q t ec z y))) c
 
-    pub by_none : 3 ≤ kind → {u : Bool} → Decides u (Unchained q 0) → Answers (then_some u 0)
+    pub by_none : ltb kind 3 ≡ false → {u : Bool} → Decides u (Unchained q 0) → Answers (then_some u 0)
     by_none k {u} d =
         let z : sized t ≡ false = sym eb ∙ h in
-        let y : chained (layout (code t)) ≡ false = le-ltb (layout (code t)).kind 3 (omega (arith, k, ek)) in
+        let y : chained (layout (code t)) ≡ false = ap (λ (j : ℕ). ltb j 3) (sym ek) ∙ k in
         counts_if u d (omega arith) (bare_head q t ec z y) (head_bare q t ec z y) (λ a. sym (ap length (no_dword q t ec z y a)))

@@ -20,7 +20,7 @@ use Rattle.layouts.specs.declared.Shape.{Shape}
 use Rattle.instruction_fields.specs.Fields.{rest}
 use Rattle.operand_deep.specs.Confirm.{Confirmer, ◌>>=◌, behind, confirm_index, confirm, confirm_front, confirm_immediates, confirm_indices, confirmed}
 use Rattle.operand_deep.specs.Walks.{walked, there}
-use Rattle.operand_deep.specs.declared.Walked.TheVariants.{Is, Not}
+use Rattle.operand_deep.specs.declared.Walked.{Walked}
 use Rattle.operand_deep.proofs.Every.{Every, unmet, met, every_if, every_of}
 use Rattle.operand_deep.proofs.Found.{walk_found, walk_lost}
 use Rattle.operand_deep.proofs.Walks.{no_row}
@@ -65,24 +65,24 @@ one_operand zero rs ws r w = unmet
 one_operand (suc k) rs ws r w = every_if (leb 16 (length rs)) _ nothing (λ h. one_front (confirm k) (take 16 rs) (operand_dword (take 16 rs)) (extension_of (at 3 (take 16 rs))) (drop 16 rs) ws r w) (λ h. unmet)
 
 -- ---- the answer of walking an operand
-there_row : (rs ws : List ℕ) (r w i n k : ℕ) → Is i n k ≡ walked (there (confirm 64) rs ws r w) → 16 * r ≤ length rs
-there_row rs ws r w i n k e = go (leb (length rs / 16) r) refl
+there_row : (rs ws : List ℕ) (r w : ℕ) {x : Walked} → Some x ≡ walked (there (confirm 64) rs ws r w) → 16 * r ≤ length rs
+there_row rs ws r w e = go (leb (length rs / 16) r) refl
   where
     go : (b : Bool) → leb (length rs / 16) r ≡ b → 16 * r ≤ length rs
     go true h = let z = no_row 64 rs ws r w (λ z. omega arith) (leb-true (length rs / 16) r h) in impossible (cc)
     go false h = let z = leb-false (length rs / 16) r h in omega arith
 
-pub operand_takes : (m : Bool) (rs ws : List ℕ) (r w i n k : ℕ) → w ≤ length ws → Is i n k ≡ walked (there (confirm 64) rs ws r w) → Takes m (o ∷ []) 1 rs ws r w (some_parts (r + i) (w + n) k)
+pub operand_takes : (m : Bool) (rs ws : List ℕ) (r w : ℕ) {x : Walked} → w ≤ length ws → Some x ≡ walked (there (confirm 64) rs ws r w) → Takes m (o ∷ []) 1 rs ws r w (some_parts (r + x.rows) (w + x.words) x.dwords)
 unfolding confirm_item
-operand_takes m rs ws r w i n k h e =
-    let f = walk_found 64 rs ws r w (there_row rs ws r w i n k e) i n k e in
+operand_takes m rs ws r w {x} h e =
+    let f = walk_found 64 rs ws r w (there_row rs ws r w e) e in
     let t = every_of f.is (one_operand 64 (drop (16 * r) rs) (drop w ws) r w) in
-    let z₁ : i ≡ r + i - r = omega arith in
-    let z₂ : n ≡ w + n - w = omega arith in
-    takes {p = record { row = r + i; word = w + n; dwords = k }} (omega arith) (omega (arith, f.rows_fit)) (omega arith) (omega (arith, f.words_fit)) (omega (arith, f.few)) (λ l.
-    item_step m o l rs ws r w f.tree f.is ∙ rw (f.rows_are, f.words_are, f.dwords_are, t) (λ j. add (z₁ j) (z₂ j) k 1 (sum_at m l rs ws (r + i) (w + n))))
+    let z₁ : x.rows ≡ r + x.rows - r = omega arith in
+    let z₂ : x.words ≡ w + x.words - w = omega arith in
+    takes {p = record { row = r + x.rows; word = w + x.words; dwords = x.dwords }} (omega arith) (omega (arith, f.rows_fit)) (omega arith) (omega (arith, f.words_fit)) (omega (arith, f.few)) (λ l.
+    item_step m o l rs ws r w f.tree f.is ∙ rw (f.rows_are, f.words_are, f.dwords_are, t) (λ j. add (z₁ j) (z₂ j) x.dwords 1 (sum_at m l rs ws (r + x.rows) (w + x.words))))
 
-pub operand_lost : (m : Bool) (rs ws : List ℕ) (r w : ℕ) → Not ≡ walked (there (confirm 64) rs ws r w) → Takes m (o ∷ []) 1 rs ws r w None
+pub operand_lost : (m : Bool) (rs ws : List ℕ) (r w : ℕ) → None ≡ walked (there (confirm 64) rs ws r w) → Takes m (o ∷ []) 1 rs ws r w None
 unfolding confirm_item
 operand_lost m rs ws r w e = lacks (λ l. item_off m o l rs ws r w (walk_lost _ e))
 
@@ -102,8 +102,8 @@ module _ {k : ℕ} {rs ws : List ℕ} {r w i : ℕ} {p : Parts} (g : Walking k r
   within = (bounds (g.1 true)).words_to
 
   module _ (h : i < k) where
-    pub goes_on : {a b c : ℕ} → Is a b c ≡ walked (there (confirm 64) rs ws p.row p.word) → Walking k rs ws r w (i + 1) (record { row = p.row + a; word = p.word + b; dwords = p.dwords + c })
-    goes_on {a} {b} {c} e = (omega arith, λ m. rw (← (one_more i)) (takes_then (g.1 m) (operand_takes m rs ws p.row p.word a b c within e)))
+    pub goes_on : {x : Walked} → Some x ≡ walked (there (confirm 64) rs ws p.row p.word) → Walking k rs ws r w (i + 1) (record { row = p.row + x.rows; word = p.word + x.words; dwords = p.dwords + x.dwords })
+    goes_on e = (omega arith, λ m. rw (← (one_more i)) (takes_then (g.1 m) (operand_takes m rs ws p.row p.word within e)))
 
     split : replicate k o ≡ replicate i o ++ replicate (k - i) o
     split = go i k (omega arith)
@@ -113,7 +113,7 @@ module _ {k : ℕ} {rs ws : List ℕ} {r w i : ℕ} {p : Parts} (g : Walking k r
         go (suc i) zero h = impossible (omega arith)
         go (suc i) (suc k) h = let z : suc k - suc i ≡ k - i = omega arith in rw z (ap (λ (l : List Item). o ∷ l) (go i k (omega arith)))
 
-    pub stopped : Not ≡ walked (there (confirm 64) rs ws p.row p.word) → Runs k rs ws r w None
+    pub stopped : None ≡ walked (there (confirm 64) rs ws p.row p.word) → Runs k rs ws r w None
     stopped e m =
         let z : k - i ≡ suc (k - i - 1) = omega arith in
         let y : replicate k o ≡ replicate i o ++ ((o ∷ []) ++ replicate (k - i - 1) o) = split ∙ ap (λ (j : ℕ). replicate i o ++ replicate j o) z in

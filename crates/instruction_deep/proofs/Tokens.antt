@@ -16,7 +16,7 @@ use Rattle.format.specs.Declarations.{layout, chained, field_in, in_bounds}
 use Rattle.format.specs.Instructions.{fields_of}
 use Rattle.format.specs.Encoder.{at, sized_row, token_of_row, head_of_row}
 use Rattle.format.proofs.Dwords.{bits_above}
-use Rattle.layouts.specs.Shapes.{Sound, Laid, meant, field_of}
+use Rattle.layouts.specs.Shapes.{Sound, Laid, kind_number, meant, field_of}
 use Rattle.layouts.specs.declared.Shape.{Shape}
 use Rattle.layouts.proofs.Fields.{value}
 use Rattle.instruction_fields.specs.Fields.{classed}
@@ -50,7 +50,7 @@ module _ (s : Shape) (h : Sound s) (t : ℕ) where
   field_below : field_in (field_of s) t < 8192
   field_below =
       let v : ℕ = t / 2 ^ s.first % 2 ^ s.width * 2 ^ (s.first - 11) in
-      let e : v % 8192 ≡ v = shl_exact s.width (s.first - 11) 13 (mod-lt _ (pow_pos s.width)) (omega (arith, h.bits_from_lem, h.bits_to)) in
+      let e : v % 8192 ≡ v = shl_exact s.width (s.first - 11) 13 (mod-lt _ (pow_pos s.width)) (omega (arith, h.bits_from, h.bits_to)) in
       rw (← (value s t h)) (omega (arith, e))
 
   no_more : (c f u v p n g m b d q₁ q₂ q₃ : ℕ) → t ≡ c + f * 2048 + u * 8192 + v * 262144 + p * 524288 + n * 16777216 + g * 2147483648 → c < 2048 → f < 8192 → u < 2 → v < 2 → p < 16 → n ≤ b → g ≤ d →
@@ -60,7 +60,7 @@ module _ (s : Shape) (h : Sound s) (t : ℕ) where
   token_below : t ≡ token_with (code t) (fields_of (meant s) t) → t < 2 ^ 32
   unfolding fields_of
   token_below e =
-      let z : t / 2 ^ 32 ≡ 0 = no_more (code t) (field_in (field_of s) t) _ _ _ _ _ _ _ _ _ _ _ e (omega arith) field_below (cond_below (ltb s.kind 4 && not (eqb (code t) 190)) (bits 13 13 t) 2 (omega arith)) (cond_below (within (code t) (3 ∷ 5 ∷ 8 ∷ 13 ∷ 31 ∷ 63 ∷ [])) (bits 18 18 t) 2 (omega arith)) (cond_below (ltb s.kind 4) (bits 19 22 t) 16 (omega arith))
+      let z : t / 2 ^ 32 ≡ 0 = no_more (code t) (field_in (field_of s) t) _ _ _ _ _ _ _ _ _ _ _ e (omega arith) field_below (cond_below (ltb (kind_number s.kind) 4 && not (eqb (code t) 190)) (bits 13 13 t) 2 (omega arith)) (cond_below (within (code t) (3 ∷ 5 ∷ 8 ∷ 13 ∷ 31 ∷ 63 ∷ [])) (bits 18 18 t) 2 (omega arith)) (cond_below (ltb (kind_number s.kind) 4) (bits 19 22 t) 16 (omega arith))
       (cond_most (sized t) (bits 24 30 t)).1 (cond_most (chained (meant s) || long t) (bits 31 31 t)).0 (sym (mod-add-div t 16777216)) (bits_above t 24 7) (bits_above t 31 1) in
       omega (arith, z)
 
@@ -91,7 +91,7 @@ module _ (q : List ℕ) (n : ℕ) (s : Shape) (laid : Laid (at 2 q) s) (u : ℕ)
 
     -- it has the row's code, and all that was asked of it holds
     module _ (ec : t % 2048 ≡ at 2 q) (f : Fields) (ef : f ≡ fields_of (meant s) t) (b₁ : Bool) (e₁ : b₁ ≡ eqb t (token_with (code t) f)) (h₁ : b₁ ≡ true) (b₂ : Bool) (e₂ : b₂ ≡ in_bounds (field_of s) t) (h₂ : b₂ ≡ true)
-        (b₃ : Bool) (e₃ : b₃ ≡ classed s.kind t n) (h₃ : b₃ ≡ true) {b₄ : Bool} (d₄ : Decides b₄ (Fielded q f)) (h₄ : b₄ ≡ true) {p : Option ℕ} (d₅ : Counts (Headed q (layout (code t)) t e) (length e) p) (k : ℕ) (ek : p ≡ Some k) where
+        (b₃ : Bool) (e₃ : b₃ ≡ classed (kind_number s.kind) t n) (h₃ : b₃ ≡ true) {b₄ : Bool} (d₄ : Decides b₄ (Fielded q f)) (h₄ : b₄ ≡ true) {p : Option ℕ} (d₅ : Counts (Headed q (layout (code t)) t e) (length e) p) (k : ℕ) (ek : p ≡ Some k) where
       head_told : Told (Headed q (layout (code t)) t e) (length e) k
       head_told = counted d₅ ek
 

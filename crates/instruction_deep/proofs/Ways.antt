@@ -17,7 +17,7 @@ use Rattle.format.specs.Instructions.{Instruction, pieces, dwords}
 use Rattle.format.specs.Rows.{tree_rows, parts_rows, parts_words, top_level, parts}
 use Rattle.format.specs.Encoder.{at, token_of_row, head_of_row}
 use Rattle.format.proofs.Dwords.{impossible}
-use Rattle.layouts.specs.Shapes.{Laid, meant, items_of}
+use Rattle.layouts.specs.Shapes.{Laid, kind_number, meant, items_of}
 use Rattle.layouts.specs.declared.Shape.{Shape}
 use Rattle.instruction_deep.specs.Confirm.{confirm_items, confirm_pieces, confirm_known, confirm_unread}
 use Rattle.instruction_deep.specs.Walks.{some_walked, walked_instruction, off, sum, add, total, sum_at, Takes, takes, lacks, Pieces, Placed, Bare}
@@ -93,24 +93,24 @@ module _ (q : List ℕ) (place : ℕ) (m : Bool) (rs ws : List ℕ) (r w : ℕ) 
       to_pieces = rw (by_shape, sums.is)
 
       -- the row's other words
-      abbrev Here : Type 0
-      Here = Placed q place s.kind r s.operands w (to.word - w)
+      abbrev Here : ℕ → Type 0
+      Here kind = Placed q place kind r s.operands w (to.word - w)
 
-      kinds : (layout (at 2 q)).kind ≡ s.kind
-      kinds = ap (λ (x : Layout). x.kind) by_shape
+      kinds : {kind : ℕ} → kind ≡ kind_number s.kind → (layout (at 2 q)).kind ≡ kind
+      kinds e = ap (λ (x : Layout). x.kind) by_shape ∙ sym e
 
       pub unlike : {c : Bool} → Decides c (Pieces q to.dwords) → c ≡ false → None ≡ walked_instruction whole
       unlike {c} d₂ k = rw (to_pieces, unconfirmed q place r w sums.parts (λ p z. not_from_Decides c d₂ k (rw sums.dwords_are at p)))
 
-      module _ {b : Bool} (d₁ : Decides b Here) where
+      module _ {kind : ℕ} (ek : kind ≡ kind_number s.kind) {b : Bool} (d₁ : Decides b (Here kind)) where
         pub misplaced : b ≡ false → None ≡ walked_instruction whole
-        misplaced k = rw (to_pieces, unconfirmed q place r w sums.parts (λ p z. not_from_Decides b d₁ k (rw (kinds, sums.tops_are, sums.words_are) at z)))
+        misplaced k = rw (to_pieces, unconfirmed q place r w sums.parts (λ p z. not_from_Decides b d₁ k (rw (kinds ek, sums.tops_are, sums.words_are) at z)))
 
         pub walks : b ≡ true → {c : Bool} → Decides c (Pieces q to.dwords) → c ≡ true → some_walked (to.row - r) (at 1 q) ≡ walked_instruction whole
         unfolding parts dwords
         walks h₁ {c} d₂ k =
             let p = d₂.0 k in
-            let z : Placed q place (layout (at 2 q)).kind r (top_level sums.parts) w (length (parts_words sums.parts)) = rw (kinds, sums.tops_are, sums.words_are) (d₁.0 h₁) in
+            let z : Placed q place (layout (at 2 q)).kind r (top_level sums.parts) w (length (parts_words sums.parts)) = rw (kinds ek, sums.tops_are, sums.words_are) (d₁.0 h₁) in
             let g : Pieces q (length (parts_dwords sums.parts)) = rw sums.dwords_are p in
             let n₁ : at 1 q ≡ length (dwords (pieces (token_of_row q) (head_of_row q) sums.parts)) = g.dwords_are ∙ sym (size q place r w sums.parts) in
             rw (to_pieces, confirmed q place r w sums.parts g z h) (λ i. some_walked (sym sums.rows_are i) (n₁ i))

@@ -6,14 +6,14 @@ ghost use Rattle.format.specs.Framing as fr;
 ghost use Rattle.format.specs.Counts as ct;
 ghost use Rattle.format.specs.Declarations as dc;
 ghost use Rattle.format.specs.Encoder as e;
-ghost use Rattle.layouts.specs.Shapes.{Sound, Laid, listed, items_of};
+ghost use Rattle.layouts.specs.Shapes.{Sound, Laid, kind_number, listed, items_of};
 ghost use Rattle.instruction_fields.specs.Fields.{Listed, rest, fields_in};
 ghost use Rattle.instruction_deep.specs.Confirm as c;
 ghost use Rattle.instruction_deep.specs.Walks.{walked_instruction, Takes, PassesIn, Passes, words_on, Runs, Counts, Unchained, Chained, Headed, Fielded, Sized, Pieces, Placed, Bare};
 
 use framing::{long, sized};
 use instruction_fields::{Fields, exact_class, exact_token, extra, fields_of, list_length};
-use layouts::{Shape, counted_layout, in_bounds, operand_count, uncounted_layout};
+use layouts::{Kind, Shape, counted_layout, in_bounds, operand_count, uncounted_layout};
 
 // The operand rows and the dwords of an instruction.
 #[derive(Clone, Copy, Drop)]
@@ -108,18 +108,11 @@ pub fn operands_of(
         word,
         dwords: 0,
     };
-    for i in 0..count {
-        let operand_deep::Walked::Is {
-            rows,
-            words: k,
-            dwords,
-        } = operand_walk::walk(operands, words, past.row, past.word, 64)
-        else {
-            return None;
-        };
-        past.row += rows;
-        past.word += k;
-        past.dwords += dwords;
+    for _ in 0..count {
+        let walked = operand_walk::walk(operands, words, past.row, past.word, 64)?;
+        past.row += walked.rows;
+        past.word += walked.words;
+        past.dwords += walked.dwords;
     }
     Some(past)
 }
@@ -150,11 +143,10 @@ fn parts_of(
 fn shape_of(code: u32) -> Shape
     ensures { Laid code result }
 {
-    let n = operand_count(code);
-    if n < 7 {
-        return counted_layout(code, n);
+    match operand_count(code) {
+        Some(n) => counted_layout(code, n),
+        None => uncounted_layout(code),
     }
-    uncounted_layout(code)
 }
 
 // Whether a row's length is in the dword after the token.
@@ -254,14 +246,14 @@ fn long_bits(t: u32) -> u32
 }
 
 // How many dwords stand after the token t, as words 8 to 11 of its row say.
-fn head(instruction: &[u32; 16], kind: u32, t: u32) -> Option<usize>
-    requires { (e.at 2 instruction.now ≡ fr.code t) × (kind ≡ (dc.layout (fr.code t)).kind) }
+fn head(instruction: &[u32; 16], kind: Kind, t: u32) -> Option<usize>
+    requires { (e.at 2 instruction.now ≡ fr.code t) × (kind_number kind ≡ (dc.layout (fr.code t)).kind) }
     ensures { Counts (Headed instruction.now (dc.layout (fr.code t)) t (e.head_of_row instruction.now)) (length (e.head_of_row instruction.now)) result }
 {
     if sized(t) {
         return unchained(instruction, long_bits(t)).then_some(1);
     }
-    if kind < 3 {
+    if kind.has_chain() {
         return chained(
             t / 0x8000_0000 % 2 == 1,
             instruction[8],
@@ -355,8 +347,9 @@ pub fn known(
 {
     let s = shape_of(instruction[2]);
     let past = parts_of(operands, words, row, word, s, model51)?;
+    let kind = s.kind.number();
     let n = past.word - word;
-    if !placed(instruction, place, s.kind, row, s.operands, word, n) {
+    if !placed(instruction, place, kind, row, s.operands, word, n) {
         return None;
     }
     if !pieces(instruction, s, past.dwords) {
