@@ -3,7 +3,7 @@ use Prim.Native.Nat.{ℕ, ◌+◌, ◌-◌, ◌*◌, ◌/◌, ◌≤◌}
 use mathlib.Core.Path.{◌≡◌, refl, sym, ap, ◌∙◌, subst}
 use mathlib.Core.List.{List, [], ◌∷◌, ◌++◌, append-nil, append_assoc}
 use mathlib.Core.Bool.{Bool}
-use mathlib.Core.Option.{Option, none as nothing, some as just}
+use mathlib.Core.Option.{Option as Maybe, none as nothing, some as just}
 use native.Mathlib.Nat.{add-zero as plus-zero}
 use native.Mathlib.Omega.{arith}
 use lib.ListN.{length, take, drop, length-append, length-drop}
@@ -16,7 +16,7 @@ use Rattle.instruction_deep.specs.Confirm.{confirm_item, confirm_items}
 use Rattle.operand_deep.specs.Confirm.{◌>>=◌}
 use Rattle.instruction_deep.specs.Walks.{Sum, off, sum, add, total, sum_at, some_parts, Takes, takes, lacks, PassesIn}
 use Rattle.instruction_deep.specs.declared.Parts.{Parts}
-use Rattle.std.specs.Prelude.{Some, None}
+use Rattle.std.specs.Prelude.{Option, Some, None}
 
 pub add_add : (r w n k r₁ w₁ n₁ k₁ : ℕ) (a : Sum) → add r w n k (add r₁ w₁ n₁ k₁ a) ≡ add (r + r₁) (w + w₁) (n + n₁) (k + k₁) a
 add_add r w n k r₁ w₁ n₁ k₁ off = refl
@@ -56,7 +56,7 @@ module _ (m : Bool) (i : Item) (l : List Item) (rs ws : List ℕ) (r w : ℕ) wh
       let z : 16 * r + 16 * tree_rows x ≡ 16 * (r + tree_rows x) = omega arith in
       rw (e, drop-drop (16 * tree_rows x) (16 * r) rs, drop-drop (length (tree_words x)) w ws, z) (go (confirm_items m l _ _ _ _))
     where
-      go : (g : Option (List Tree)) → total (◌>>=◌ g (λ ps. just (x ∷ ps))) ≡ add (tree_rows x) (length (tree_words x)) (length (op.dwords x)) (top_level (x ∷ [])) (total g)
+      go : (g : Maybe (List Tree)) → total (◌>>=◌ g (λ ps. just (x ∷ ps))) ≡ add (tree_rows x) (length (tree_words x)) (length (op.dwords x)) (top_level (x ∷ [])) (total g)
       go nothing = refl
       go (just ps) = cons_total x ps
 
@@ -142,3 +142,7 @@ module _ {m : Bool} (a b : List Item) {ws : List ℕ} {w : ℕ} where
   passes_then {w₁} {w₂} f g rs r =
       let z : w₁ - w + (w₂ - w₁) ≡ w₂ - w = gap w w₁ w₂ (bounds (f rs r)).words_from (bounds (g rs r)).words_from in
       subst (λ (n : ℕ). Takes m (a ++ b) 0 rs ws r w (some_parts r w₂ n)) z (takes_then (f rs r) (g rs r))
+
+  pub passes_on : {w₁ : ℕ} (p : Option ℕ) → PassesIn m a ws w (Some w₁) → PassesIn m b ws w₁ p → PassesIn m (a ++ b) ws w p
+  passes_on None f g = passes_off f g
+  passes_on (Some w₂) f g = passes_then f g

@@ -2,21 +2,23 @@
 use Prim.Native.Nat.{ℕ, zero, suc, ◌+◌, ◌-◌, ◌%◌, ◌^◌, ◌≤◌, ◌<◌}
 use mathlib.Core.Path.{◌≡◌, refl, sym, ap, ◌∙◌, subst}
 use mathlib.Core.List.{List, [], ◌∷◌, ◌++◌, append_assoc}
-use mathlib.Core.Bool.{Bool, true, false, cond}
+use mathlib.Core.Bool.{Bool, true, false, cond, ◌&&◌}
 use native.Mathlib.Nat.{add-zero as plus-zero}
 use native.Mathlib.Omega.{arith}
 use lib.ListN.{length, get_or, drop, replicate, length-drop}
 use lib.Seq.{get_or-drop}
-use lib.Dec.{leb}
-use borrow.Author.Tests.{le-leb, lt-leb, leb-true, leb-false, lt-ltb, le-ltb, ne_eqb}
+use lib.Dec.{leb, ltb, eqb}
+use borrow.Author.Tests.{le-leb, lt-leb, leb-true, leb-false, lt-ltb, le-ltb, ltb-true, ltb-false}
 use Rattle.format.specs.Declarations.{Item, d, small, s, tail, list}
-use Rattle.layouts.specs.Shapes.{listed, tailed}
+use Rattle.layouts.specs.Shapes.{Sound, listed, tailed}
+use Rattle.instruction_fields.specs.Places.{◌>>=◌, dwords_on, small_on, list_on, tail_on, rest_on}
+use Rattle.format.proofs.Dwords.{impossible}
 use Rattle.layouts.specs.declared.Shape.{Shape}
 use Rattle.instruction_fields.specs.Fields.{rest}
 use Rattle.std.specs.Prelude.{Option, Some, None}
 use Rattle.instruction_deep.specs.Confirm.{confirm_words, confirm_item}
-use Rattle.instruction_deep.specs.Walks.{some_parts, Takes, PassesIn, Passes, words_on}
-use Rattle.instruction_deep.proofs.Items.{bounds, takes_none, passes_item, blocks_item, passes_first, passes_off, passes_then}
+use Rattle.instruction_deep.specs.Walks.{some_parts, Takes, PassesIn}
+use Rattle.instruction_deep.proofs.Items.{bounds, takes_none, passes_item, blocks_item, passes_first, passes_off, passes_then, passes_on}
 
 module _ (ws : List ℕ) (w : ℕ) (h : w ≤ length ws) where
   left : length (drop w ws) ≡ length ws - w
@@ -56,7 +58,7 @@ module _ (ws : List ℕ) (w : ℕ) (h : w ≤ length ws) where
 
   -- a word
   module _ (m : Bool) (i : Item) (e : (rs : List ℕ) (r : ℕ) → confirm_item m i rs (drop w ws) r w ≡ confirm_words 1 true rs (drop w ws) r w) where
-    one_word : PassesIn m (i ∷ []) ws w (words_on (length ws) w 1)
+    one_word : PassesIn m (i ∷ []) ws w (dwords_on (length ws) w 1)
     one_word = go (leb 1 (length ws - w)) refl
       where
         go : (b : Bool) → leb 1 (length ws - w) ≡ b → PassesIn m (i ∷ []) ws w (cond b (Some (w + 1)) None)
@@ -68,11 +70,11 @@ module _ (ws : List ℕ) (w : ℕ) (h : w ≤ length ws) where
   extra_none = subst (λ (n : ℕ). PassesIn false (s ∷ []) ws w (Some n)) (plus-zero w) (passes_item 0 h (omega arith) (λ rs r. rw (le-leb 0 (length (drop w ws)) (omega arith))))
 
 -- words one after the other
-more_words : (m : Bool) (A B : List Item) (ws : List ℕ) (w a b : ℕ) → w ≤ length ws → PassesIn m A ws w (words_on (length ws) w a) → (w + a ≤ length ws → PassesIn m B ws (w + a) (words_on (length ws) (w + a) b)) → PassesIn m (A ++ B) ws w (words_on (length ws) w (a + b))
+more_words : (m : Bool) (A B : List Item) (ws : List ℕ) (w a b : ℕ) → w ≤ length ws → PassesIn m A ws w (dwords_on (length ws) w a) → (w + a ≤ length ws → PassesIn m B ws (w + a) (dwords_on (length ws) (w + a) b)) → PassesIn m (A ++ B) ws w (dwords_on (length ws) w (a + b))
 more_words m A B ws w a b h f g = go (leb a (length ws - w)) refl (leb b (length ws - (w + a))) refl f g
   where
     go : (x : Bool) → leb a (length ws - w) ≡ x → (y : Bool) → leb b (length ws - (w + a)) ≡ y → PassesIn m A ws w (cond x (Some (w + a)) None) →
-        (w + a ≤ length ws → PassesIn m B ws (w + a) (cond y (Some (w + a + b)) None)) → PassesIn m (A ++ B) ws w (words_on (length ws) w (a + b))
+        (w + a ≤ length ws → PassesIn m B ws (w + a) (cond y (Some (w + a + b)) None)) → PassesIn m (A ++ B) ws w (dwords_on (length ws) w (a + b))
     go false ex y ey f g = let k = leb-false a (length ws - w) ex in rw (lt-leb (a + b) (length ws - w) (omega arith)) (passes_first A B f)
     go true ex false ey f g =
         let k = leb-true a (length ws - w) ex in
@@ -84,21 +86,21 @@ more_words m A B ws w a b h f g = go (leb a (length ws - w)) refl (leb b (length
         let z : w + a + b ≡ w + (a + b) = omega arith in
         rw (le-leb (a + b) (length ws - w) (omega arith)) (subst (λ (n : ℕ). PassesIn m (A ++ B) ws w (Some n)) z (passes_then A B f (g (omega arith))))
 
-words_none : (m : Bool) (items : List Item) (ws : List ℕ) (w : ℕ) → PassesIn m items ws w (Some w) → PassesIn m items ws w (words_on (length ws) w 0)
+words_none : (m : Bool) (items : List Item) (ws : List ℕ) (w : ℕ) → PassesIn m items ws w (Some w) → PassesIn m items ws w (dwords_on (length ws) w 0)
 words_none m items ws w f = rw (le-leb 0 (length ws - w) (omega arith)) (subst (λ (n : ℕ). PassesIn m items ws w (Some n)) (sym (plus-zero w)) f)
 
-run_words : (m : Bool) (i : Item) → ((rs ws : List ℕ) (r w : ℕ) → confirm_item m i rs ws r w ≡ confirm_words 1 true rs ws r w) → (k : ℕ) (ws : List ℕ) (w : ℕ) → w ≤ length ws → PassesIn m (replicate k i) ws w (words_on (length ws) w k)
+run_words : (m : Bool) (i : Item) → ((rs ws : List ℕ) (r w : ℕ) → confirm_item m i rs ws r w ≡ confirm_words 1 true rs ws r w) → (k : ℕ) (ws : List ℕ) (w : ℕ) → w ≤ length ws → PassesIn m (replicate k i) ws w (dwords_on (length ws) w k)
 run_words m i e zero ws w h = words_none m [] ws w (stays ws w h m [] refl)
 run_words m i e (suc k) ws w h =
     let z : 1 + k ≡ suc k = omega arith in
     rw z at (more_words m (i ∷ []) (replicate k i) ws w 1 k h (one_word ws w h m i (λ rs r. e rs (drop w ws) r w)) (λ l. run_words m i e k ws (w + 1) l))
 
-pub words_on_lem : (m : Bool) (k : ℕ) (ws : List ℕ) (w : ℕ) → w ≤ length ws → PassesIn m (replicate k d) ws w (words_on (length ws) w k)
+pub words_on_lem : (m : Bool) (k : ℕ) (ws : List ℕ) (w : ℕ) → w ≤ length ws → PassesIn m (replicate k d) ws w (dwords_on (length ws) w k)
 unfolding confirm_item
 words_on_lem m k ws w h = run_words m d (λ rs ws r w. refl) k ws w h
 
 -- one more word each in model 5.1, none otherwise
-extras : (m : Bool) (x : ℕ) (ws : List ℕ) (w : ℕ) → w ≤ length ws → PassesIn m (replicate x s) ws w (words_on (length ws) w (cond m x 0))
+extras : (m : Bool) (x : ℕ) (ws : List ℕ) (w : ℕ) → w ≤ length ws → PassesIn m (replicate x s) ws w (dwords_on (length ws) w (cond m x 0))
 unfolding confirm_item
 extras true x ws w h = run_words true s (λ rs ws r w. refl) x ws w h
 extras false x ws w h = words_none false (replicate x s) ws w (go x)
@@ -107,100 +109,73 @@ extras false x ws w h = words_none false (replicate x s) ws w (go x)
     go zero = stays ws w h false [] refl
     go (suc x) = passes_then (s ∷ []) (replicate x s) (extra_none ws w h) (go x)
 
--- ---- the code's ways
+-- ---- the places that the code tells
 module _ (ws : List ℕ) (at : ℕ) (h : at ≤ length ws) where
-  module _ (k : ℕ) (l : k ≤ 1) (n : k ≡ 0 → ⊥) where
-    is_one : k ≡ 1
-    is_one = omega arith
+  small_passes : (m : Bool) (k : ℕ) → k ≤ 1 → PassesIn m (replicate k small) ws at (small_on k ws at)
+  small_passes m zero l = stays ws at h m [] refl
+  small_passes m (suc zero) l = go (ltb at (length ws)) refl (ltb (get_or ws at 0) 65_536) refl
+    where
+      go : (a : Bool) → ltb at (length ws) ≡ a → (b : Bool) → ltb (get_or ws at 0) 65_536 ≡ b → PassesIn m (small ∷ []) ws at (cond (a && b) (Some (at + 1)) None)
+      go false e b f = no_small ws at h m (let z = ltb-false at (length ws) e in omega arith)
+      go true e true f = one_small ws at h m (let z = ltb-true at (length ws) e in omega arith) (ltb-true _ _ f)
+      go true e false f = large ws at h m (let z = ltb-true at (length ws) e in omega arith) (ltb-false _ _ f)
+  small_passes m (suc (suc k)) l = impossible (omega arith)
 
-    pub small_end : length ws ≤ at → Passes (replicate k small) ws at None
-    small_end e m = rw is_one (no_small ws at h m (omega arith))
+  list_passes : (m : Bool) (b : ℕ) → PassesIn m (listed b) ws at (list_on b ws at)
+  list_passes m b = first (eqb b 0)
+    where
+      k : ℕ
+      k = get_or ws at 0 % 2 ^ b
 
-    pub small_large : at < length ws → 65_536 ≤ get_or ws at 0 → Passes (replicate k small) ws at None
-    small_large e g m = rw is_one (large ws at h m (omega arith) g)
+      second : (a : Bool) → ltb at (length ws) ≡ a → (c : Bool) → leb k (length ws - (at + 1)) ≡ c → PassesIn m (list b ∷ []) ws at (cond a (cond c (Some (at + 1 + k)) None) None)
+      second false e c f = no_list ws at h m b (let z = ltb-false at (length ws) e in omega arith)
+      second true e false f = no_list ws at h m b (let z = leb-false k (length ws - (at + 1)) f in let y = ltb-true at (length ws) e in omega arith)
+      second true e true f =
+          let u : at + (1 + k) ≡ at + 1 + k = omega arith in
+          subst (λ (n : ℕ). PassesIn m (list b ∷ []) ws at (Some n)) u (one_list ws at h m b (let z = leb-true k (length ws - (at + 1)) f in let y = ltb-true at (length ws) e in omega arith))
 
-    pub small_to : at < length ws → get_or ws at 0 < 65_536 → Passes (replicate k small) ws at (Some (at + 1))
-    small_to e g m = rw is_one (one_small ws at h m (omega arith) g)
-
-  pub none_small : (k : ℕ) → k ≡ 0 → Passes (replicate k small) ws at (Some at)
-  none_small k z m = stays ws at h m _ (rw z)
-
-  pub none_listed : (k : ℕ) → k ≡ 0 → Passes (listed k) ws at (Some at)
-  none_listed k z m = stays ws at h m _ (rw z)
-
-  module _ (b : ℕ) (z : b ≡ 0 → ⊥) where
-    listed_one : listed b ≡ list b ∷ []
-    listed_one = rw (ne_eqb b 0 z)
-
-    pub list_end : length ws ≤ at → Passes (listed b) ws at None
-    list_end e m = rw listed_one (no_list ws at h m b (omega arith))
-
-    module _ (k : ℕ) (q : k ≡ get_or ws at 0 % 2 ^ b) (e : at < length ws) where
-      pub list_long : length ws - at - 1 < k → Passes (listed b) ws at None
-      list_long l m = rw listed_one (no_list ws at h m b (omega arith))
-
-      pub list_to : k ≤ length ws - at - 1 → Passes (listed b) ws at (Some (at + 1 + k))
-      list_to l m =
-          let u : at + (1 + get_or ws at 0 % 2 ^ b) ≡ at + 1 + k = omega arith in
-          rw listed_one (subst (λ (n : ℕ). PassesIn m (list b ∷ []) ws at (Some n)) u (one_list ws at h m b (omega arith)))
+      first : (z : Bool) → PassesIn m (cond z [] (list b ∷ [])) ws at (cond z (Some at) (cond (ltb at (length ws)) (dwords_on (length ws) (at + 1) k) None))
+      first true = stays ws at h m [] refl
+      first false = second (ltb at (length ws)) refl (leb k (length ws - (at + 1))) refl
 
 pub place_bounds : {m : Bool} {items : List Item} {ws : List ℕ} {at k : ℕ} {p : Option ℕ} → PassesIn m items ws at p → p ≡ Some k → (at ≤ k) × (k ≤ length ws)
 place_bounds {m} {items} {ws} {at} {k} f e = let b = bounds (subst (PassesIn m items ws at) e f [] 0) in (b.words_from, b.words_to)
 
 -- the items behind the operands
-module _ (m : Bool) (x : Shape) (ws : List ℕ) (at : ℕ) {p : Option ℕ} (p₁ : Passes (replicate x.small small) ws at p) where
-  pub rest_small_off : p ≡ None → PassesIn m (rest x) ws at None
-  unfolding rest
-  rest_small_off e = passes_first (replicate x.small small) _ (subst (PassesIn m _ ws at) e (p₁ m))
+module _ (m : Bool) (x : Shape) (ws : List ℕ) where
+  abbrev middle : List Item
+  middle = replicate x.after d ++ replicate x.extra s
 
-  module _ (a : ℕ) (ea : p ≡ Some a) (n : ℕ) (en : n ≡ x.after + cond m x.extra 0) {q : Option ℕ} (p₂ : q ≡ words_on (length ws) a n) where
-    abbrev middle : List Item
-    middle = replicate x.after d ++ replicate x.extra s
+  abbrev end : List Item
+  end = listed x.list ++ tailed x.tail
 
-    abbrev end : List Item
-    end = listed x.list ++ tailed x.tail
+  third : (b : ℕ) (p : Option ℕ) → PassesIn m (listed x.list) ws b p → PassesIn m end ws b (p >>= λ c. Some (tail_on x.tail (length ws) c))
+  third b None f = passes_first (listed x.list) (tailed x.tail) f
+  third b (Some c) f = passes_then (listed x.list) (tailed x.tail) f (go x.tail)
+    where
+      l : c ≤ length ws
+      l = (place_bounds f refl).1
 
-    smalls : PassesIn m (replicate x.small small) ws at (Some a)
-    smalls = subst (PassesIn m _ ws at) ea (p₁ m)
+      go : (t : Bool) → PassesIn m (tailed t) ws c (Some (cond t (length ws) c))
+      go true = all_words ws c l m
+      go false = stays ws c l m [] refl
 
-    first_part : PassesIn m middle ws a q
-    first_part =
-        let h = (place_bounds (p₁ m) ea).1 in
-        rw (p₂, en) (more_words m (replicate x.after d) (replicate x.extra s) ws a x.after (cond m x.extra 0) h (words_on_lem m x.after ws a h) (λ l. extras m x.extra ws (a + x.after) l))
+  second : (a : ℕ) (p : Option ℕ) → PassesIn m middle ws a p → PassesIn m (middle ++ end) ws a (p >>= λ b. list_on x.list ws b >>= λ c. Some (tail_on x.tail (length ws) c))
+  second a None f = passes_first middle end f
+  second a (Some b) f = passes_on middle end _ f (third b (list_on x.list ws b) (list_passes ws b (place_bounds f refl).1 m x.list))
 
-    regroup : replicate x.after d ++ (replicate x.extra s ++ end) ≡ middle ++ end
-    regroup = sym (append_assoc (replicate x.after d) (replicate x.extra s) end)
+  abbrev n : ℕ
+  n = x.after + cond m x.extra 0
 
-    past_off : PassesIn m (middle ++ end) ws a None → PassesIn m (rest x) ws at None
-    unfolding rest
-    past_off f = rw regroup (passes_off (replicate x.small small) (middle ++ end) smalls f)
+  middle_passes : (a : ℕ) → a ≤ length ws → PassesIn m middle ws a (dwords_on (length ws) a n)
+  middle_passes a h = more_words m (replicate x.after d) (replicate x.extra s) ws a x.after (cond m x.extra 0) h (words_on_lem m x.after ws a h) (λ l. extras m x.extra ws (a + x.after) l)
 
-    past_to : (k : ℕ) → PassesIn m (middle ++ end) ws a (Some k) → PassesIn m (rest x) ws at (Some k)
-    unfolding rest
-    past_to k f = rw regroup (passes_then (replicate x.small small) (middle ++ end) smalls f)
+  first : (at : ℕ) (p : Option ℕ) → PassesIn m (replicate x.small small) ws at p → PassesIn m (replicate x.small small ++ (middle ++ end)) ws at (p >>= λ a. dwords_on (length ws) a n >>= λ b. list_on x.list ws b >>= λ c. Some (tail_on x.tail (length ws) c))
+  first at None f = passes_first (replicate x.small small) (middle ++ end) f
+  first at (Some a) f = passes_on (replicate x.small small) (middle ++ end) _ f (second a (dwords_on (length ws) a n) (middle_passes a (place_bounds f refl).1))
 
-    pub rest_words_off : q ≡ None → PassesIn m (rest x) ws at None
-    rest_words_off e = past_off (passes_first middle end (subst (PassesIn m middle ws a) e first_part))
-
-    second_part : (b : ℕ) → q ≡ Some b → PassesIn m middle ws a (Some b)
-    second_part b eb = subst (PassesIn m middle ws a) eb first_part
-
-    pub rest_within : (b : ℕ) → q ≡ Some b → b ≤ length ws
-    rest_within b eb = (place_bounds (second_part b eb) refl).1
-
-    module _ (b : ℕ) (eb : q ≡ Some b) (u : Option ℕ) (p₃ : Passes (listed x.list) ws b u) where
-      pub rest_list_off : u ≡ None → PassesIn m (rest x) ws at None
-      rest_list_off e = past_off (passes_off middle end (second_part b eb) (passes_first (listed x.list) (tailed x.tail) (subst (PassesIn m _ ws b) e (p₃ m))))
-
-      module _ (c : ℕ) (ec : u ≡ Some c) where
-        lists : PassesIn m (listed x.list) ws b (Some c)
-        lists = subst (PassesIn m _ ws b) ec (p₃ m)
-
-        last : (k : ℕ) → PassesIn m (tailed x.tail) ws c (Some k) → PassesIn m (rest x) ws at (Some k)
-        last k f = past_to k (passes_then middle end (second_part b eb) (passes_then (listed x.list) (tailed x.tail) lists f))
-
-        pub rest_tail : x.tail ≡ true → PassesIn m (rest x) ws at (Some (length ws))
-        rest_tail z = last (length ws) (rw z (all_words ws c (place_bounds lists refl).1 m))
-
-        pub rest_to : x.tail ≡ false → PassesIn m (rest x) ws at (Some c)
-        rest_to z = last c (stays ws c (place_bounds lists refl).1 m _ (rw z))
+  pub rest_passes : (at : ℕ) → at ≤ length ws → Sound x → PassesIn m (rest x) ws at (rest_on m x ws at)
+  unfolding rest rest_on
+  rest_passes at h z =
+      let e : middle ++ end ≡ replicate x.after d ++ (replicate x.extra s ++ end) = append_assoc (replicate x.after d) (replicate x.extra s) end in
+      rw e at (first at (small_on x.small ws at) (small_passes ws at h m x.small z.small))

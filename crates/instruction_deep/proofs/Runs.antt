@@ -15,7 +15,8 @@ use Rattle.format.specs.Declarations.{Item, o, d}
 use Rattle.format.specs.Rows.{operand_row, top_level}
 use Rattle.format.specs.Encoder.{at, extension_of, operand_dword, same}
 use Rattle.format.proofs.Dwords.{impossible}
-use Rattle.layouts.specs.Shapes.{items_of}
+use Rattle.layouts.specs.Shapes.{Sound, items_of}
+use Rattle.instruction_fields.specs.Places.{dwords_on, rest_on}
 use Rattle.layouts.specs.declared.Shape.{Shape}
 use Rattle.instruction_fields.specs.Fields.{rest}
 use Rattle.operand_deep.specs.Confirm.{Confirmer, ◌>>=◌, behind, confirm_index, confirm, confirm_front, confirm_immediates, confirm_indices, confirmed}
@@ -25,10 +26,10 @@ use Rattle.operand_deep.proofs.Every.{Every, unmet, met, every_if, every_of}
 use Rattle.operand_deep.proofs.Found.{walk_found, walk_lost}
 use Rattle.operand_deep.proofs.Walks.{no_row}
 use Rattle.instruction_deep.specs.Confirm.{confirm_item}
-use Rattle.instruction_deep.specs.Walks.{some_parts, add, sum_at, Takes, takes, lacks, PassesIn, words_on, Runs}
+use Rattle.instruction_deep.specs.Walks.{some_parts, add, sum_at, Takes, takes, lacks, PassesIn, Runs}
 use Rattle.instruction_deep.specs.declared.Parts.{Parts}
 use Rattle.instruction_deep.proofs.Items.{item_step, item_off, Bounds, bounds, all_few, takes_none, takes_first, takes_off, takes_then}
-use Rattle.instruction_deep.proofs.Passing.{words_on_lem}
+use Rattle.instruction_deep.proofs.Passing.{words_on_lem, rest_passes}
 
 -- ---- an operand is one part
 abbrev One : Tree → Type 0
@@ -126,7 +127,7 @@ module _ {k : ℕ} {rs ws : List ℕ} {r w i : ℕ} {p : Parts} (g : Walking k r
   room = let b = bounds (g.1 true) in (b.rows_to, b.words_to, omega (arith, all_few b))
 
 -- ---- the items of a shape
-module _ (m : Bool) (x : Shape) (rs ws : List ℕ) (r w : ℕ) (h : w ≤ length ws) (p : Option ℕ) (e : p ≡ words_on (length ws) w x.before) where
+module _ (m : Bool) (x : Shape) (rs ws : List ℕ) (r w : ℕ) (h : w ≤ length ws) (p : Option ℕ) (e : p ≡ dwords_on (length ws) w x.before) where
   first : PassesIn m (replicate x.before d) ws w p
   first = rw e (words_on_lem m x.before ws w h)
 
@@ -153,7 +154,10 @@ module _ (m : Bool) (x : Shape) (rs ws : List ℕ) (r w : ℕ) (h : w ≤ length
         pub second_bounds : Bounds rs ws r a b
         second_bounds = bounds at_second
 
-        module _ (u : Option ℕ) (last : PassesIn m (rest x) ws b.word u) where
+        module _ (z : Sound x) (u : Option ℕ) (eu : u ≡ rest_on m x ws b.word) where
+          last : PassesIn m (rest x) ws b.word u
+          last = rw eu (rest_passes m x ws b.word second_bounds.words_to z)
+
           pub rest_off : u ≡ None → Takes m (items_of x) x.operands rs ws r w None
           unfolding items_of rest
           rest_off z = takes_off {b = replicate x.operands o ++ rest x} at_first (takes_off {b = rest x} at_second (subst (PassesIn m (rest x) ws b.word) z last rs b.row) x.operands) x.operands

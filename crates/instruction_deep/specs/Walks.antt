@@ -1,5 +1,5 @@
 -- What walking over the rows and words of an instruction answers.
-use Rattle.std.specs.Prelude.{ℕ, ◌+◌, ◌-◌, ◌*◌, ◌/◌, ◌%◌, ◌^◌, ◌≤◌, ◌≡◌, List, ◌++◌, Bool, true, cond, length, drop, replicate, leb, Option, Some, None}
+use Rattle.std.specs.Prelude.{ℕ, ◌+◌, ◌-◌, ◌*◌, ◌/◌, ◌%◌, ◌^◌, ◌≤◌, ◌≡◌, List, ◌++◌, Bool, true, cond, length, drop, replicate, Option, Some, None}
 use Rattle.std.proofs.Math.Option.{Option as Maybe, none as nothing, some as just}
 use Rattle.format.specs.Dwords.{bits}
 use Rattle.format.specs.Framing.{code, long, sized, length_of}
@@ -62,10 +62,6 @@ PassesIn m items ws w p = (rs : List ℕ) (r : ℕ) → Takes m items 0 rs ws r 
 -- in either model
 abbrev pub Passes : List Item → List ℕ → ℕ → Option ℕ → Type 0
 Passes items ws w p = (m : Bool) → PassesIn m items ws w p
-
--- k words on, if there are so many
-abbrev pub words_on : ℕ → ℕ → ℕ → Option ℕ
-words_on n w k = cond (leb k (n - w)) (Some (w + k)) None
 
 -- k operands
 abbrev pub Runs : ℕ → List ℕ → List ℕ → ℕ → ℕ → Option Parts → Type 0

@@ -1,18 +1,18 @@
 // Walks the row of an instruction, the rows of its operands and its words, which anybody may have written: the general way.
 #![tactic(auto)]
 
-ghost use Rattle.std.specs.Prelude.{◌≡◌, [], suc, ◌+◌, ◌-◌, ◌*◌, ◌^◌, ◌<◌, ◌≤◌, cond, ◌&&◌, ◌||◌, length, get_or, drop, replicate, eqb, ltb, Decides};
+ghost use Rattle.std.specs.Prelude.{◌≡◌, [], suc, ◌+◌, ◌-◌, ◌*◌, ◌^◌, ◌<◌, ◌≤◌, cond, ◌&&◌, ◌||◌, length, get_or, drop, eqb, ltb, Decides};
 ghost use Rattle.format.specs.Framing as fr;
 ghost use Rattle.format.specs.Counts as ct;
 ghost use Rattle.format.specs.Declarations as dc;
 ghost use Rattle.format.specs.Encoder as e;
-ghost use Rattle.layouts.specs.Shapes.{Sound, Laid, kind_number, listed, items_of};
-ghost use Rattle.instruction_fields.specs.Fields.{Listed, rest, fields_in};
+ghost use Rattle.layouts.specs.Shapes.{Sound, Laid, kind_number, items_of};
+ghost use Rattle.instruction_fields.specs.Fields.{fields_in};
 ghost use Rattle.instruction_deep.specs.Confirm as c;
-ghost use Rattle.instruction_deep.specs.Walks.{walked_instruction, Takes, PassesIn, Passes, words_on, Runs, Counts, Unchained, Chained, Headed, Fielded, Sized, Pieces, Placed, Bare};
+ghost use Rattle.instruction_deep.specs.Walks.{walked_instruction, Takes, Runs, Counts, Unchained, Chained, Headed, Fielded, Sized, Pieces, Placed, Bare};
 
 use framing::{long, sized};
-use instruction_fields::{Fields, exact_class, exact_token, extra, fields_of, list_length};
+use instruction_fields::{Fields, exact_class, exact_token, fields_of, past_dwords, past_rest};
 use layouts::{Kind, Shape, counted_layout, in_bounds, operand_count, uncounted_layout};
 
 // The operand rows and the dwords of an instruction.
@@ -28,68 +28,6 @@ pub struct Parts {
     pub row: usize,
     pub word: usize,
     pub dwords: usize,
-}
-
-// Past k words.
-pub fn past_words(words: &[u32], at: usize, k: u32) -> Option<usize>
-    requires { at ≤ length words.now }
-    ensures { result ≡ words_on (length words.now) at k }
-{
-    let k = k as usize;
-    if words.len() - at < k {
-        return None;
-    }
-    Some(at + k)
-}
-
-// Past a word under 65,536, if there is to be one.
-fn past_small(words: &[u32], at: usize, small: u32) -> Option<usize>
-    requires { (at ≤ length words.now) × (small ≤ 1) }
-    ensures { Passes (replicate small dc.small) words.now at result }
-{
-    if small == 0 {
-        return Some(at);
-    }
-    if words.len() <= at {
-        return None;
-    }
-    if 65536 <= words[at] {
-        return None;
-    }
-    Some(at + 1)
-}
-
-// Past a list that is counted by so many bits of its first word, if there is to be one.
-fn past_list(words: &[u32], at: usize, bits: u32) -> Option<usize>
-    requires { (at ≤ length words.now) × Listed bits }
-    ensures { Passes (listed bits) words.now at result }
-{
-    if bits == 0 {
-        return Some(at);
-    }
-    let n = words.len();
-    if n <= at {
-        return None;
-    }
-    let k = list_length(words[at], bits) as usize;
-    if n - at - 1 < k {
-        return None;
-    }
-    Some(at + 1 + k)
-}
-
-// Past the items behind the operands.
-pub fn past_rest(words: &[u32], at: usize, s: Shape, model51: bool) -> Option<usize>
-    requires { (at ≤ length words.now) × Sound s }
-    ensures { PassesIn model51 (rest s) words.now at result }
-{
-    let a = past_small(words, at, s.small)?;
-    let b = past_words(words, a, s.after + extra(s, model51))?;
-    let c = past_list(words, b, s.list)?;
-    if s.tail {
-        return Some(words.len());
-    }
-    Some(c)
 }
 
 // Walks so many operands, one after the other.
@@ -129,7 +67,7 @@ fn parts_of(
     requires { (word ≤ length words.now) × Sound s }
     ensures { Takes model51 (items_of s) s.operands operands.now words.now row word result }
 {
-    let a = past_words(words, word, s.before)?;
+    let a = past_dwords(words, word, s.before)?;
     let past = operands_of(operands, words, row, a, s.operands)?;
     let end = past_rest(words, past.word, s, model51)?;
     Some(Parts {
