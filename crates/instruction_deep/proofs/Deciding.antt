@@ -1,10 +1,13 @@
 -- What an answer decides and counts.
 use Prim.Native.Nat.{ℕ, ◌≤◌}
-use mathlib.Core.Path.{◌≡◌}
-use mathlib.Core.Bool.{false}
+use mathlib.Core.Path.{◌≡◌, refl}
+use mathlib.Core.Bool.{true, false}
 use Rattle.std.specs.Prelude.{Option, Some, Decides}
 use Rattle.format.proofs.Dwords.{impossible}
 use Rattle.instruction_deep.specs.Walks.{Counts, are, none_are}
+
+pub holds : {P : Type 0} → P → Decides true P
+holds p = (λ e. p, λ p. refl)
 
 pub fails : {P : Type 0} → (P → ⊥) → Decides false P
 fails f = (λ e. impossible (cc), λ p. absurd (f p))

@@ -59,10 +59,6 @@ onward r w (Some w₁) = some_parts r w₁ (w₁ - w)
 abbrev pub PassesIn : Bool → List Item → List ℕ → ℕ → Option ℕ → Type 0
 PassesIn m items ws w p = (rs : List ℕ) (r : ℕ) → Takes m items 0 rs ws r w (onward r w p)
 
--- in either model
-abbrev pub Passes : List Item → List ℕ → ℕ → Option ℕ → Type 0
-Passes items ws w p = (m : Bool) → PassesIn m items ws w p
-
 -- k operands
 abbrev pub Runs : ℕ → List ℕ → List ℕ → ℕ → ℕ → Option Parts → Type 0
 Runs k rs ws r w p = (m : Bool) → Takes m (replicate k o) k rs ws r w p

@@ -1,13 +1,13 @@
 -- The short way of a declaration: a row with nothing but a field needs no other token, and its operand stands alone.
-use Prim.Native.Nat.{ℕ, ◌+◌, ◌-◌, ◌*◌, ◌/◌, ◌%◌, ◌^◌, ◌<◌, ◌≤◌}
+use Prim.Native.Nat.{ℕ, ◌+◌, ◌-◌, ◌*◌, ◌/◌, ◌^◌, ◌<◌, ◌≤◌}
 use mathlib.Core.Path.{◌≡◌, refl, sym, ap, ◌∙◌, subst}
 use mathlib.Core.List.{List, [], ◌∷◌, map}
-use mathlib.Core.Bool.{Bool, true, false, not, cond, ◌&&◌, ◌||◌}
+use mathlib.Core.Bool.{Bool, true, false, cond, ◌&&◌, ◌||◌}
 use native.Mathlib.Omega.{arith}
 use lib.ListN.{length, get_or, drop}
 use lib.Seq.{get_or-drop}
-use lib.Dec.{eqb, lit<}
-use borrow.Author.Tests.{ne_eqb, not-false}
+use lib.Dec.{eqb}
+use borrow.Author.Tests.{ne_eqb}
 use Rattle.format.specs.Dwords.{bits, follows}
 use Rattle.format.specs.Framing.{code, long, sized, length_of}
 use Rattle.format.specs.Counts.{within, numbers, line_of, operand_count, token_with}
@@ -16,19 +16,17 @@ use Rattle.format.specs.Instructions.{fields_of}
 use Rattle.format.specs.Encoder.{at, sized_row, token_of_row, head_of_row}
 use Rattle.format.proofs.Dwords.{impossible}
 use Rattle.format.proofs.Each.{member}
-use Rattle.layouts.specs.Shapes.{meant, field_of, items_of}
+use Rattle.layouts.specs.Shapes.{Sound, kind_number, meant, field_of, items_of}
 use Rattle.layouts.specs.declared.Shape.{Shape}
-use Rattle.operand_walk.specs.Walks.{Run, empty, next, Ran}
-use Rattle.operand_deep.proofs.Fields.{row_at}
-use Rattle.instruction_fields.specs.Fields.{Declared, rest}
-use Rattle.instruction_fields.specs.declared.Place.{Place}
-use Rattle.instruction_fields.specs.declared.Place.TheVariants.{At, Off}
+use Rattle.operand_walk.specs.declared.Ran.{Ran}
+use Rattle.operand_walk.specs.Walks.{Run, empty, next, IsRun}
+use Rattle.instruction_fields.specs.Fields.{Declared}
+use Rattle.instruction_fields.specs.Places.{dwords_on, rest_on}
+use Rattle.std.specs.Prelude.{Option, Some}
 use Rattle.instruction_deep.specs.Confirm.{confirm_known}
-use Rattle.instruction_deep.specs.Walks.{walked_instruction, Takes, PassesIn, words_on, Runs, row_from, Decides, holds, Unchained, Headed, Fielded, Pieces, Placed}
-use Rattle.instruction_walk.specs.Short.{Fitting, short_token, OnlyField, Lone}
-use Rattle.instruction_deep.specs.declared.Walked.TheVariants.{Is}
-use Rattle.instruction_deep.specs.declared.Parts.TheVariants.{To}
-use Rattle.instruction_deep.proofs.Deciding.{granted}
+use Rattle.instruction_deep.specs.Walks.{some_walked, some_parts, walked_instruction, Takes, Runs, Headed, Fielded, Pieces, Placed}
+use Rattle.instruction_walk.specs.Short.{short_token, OnlyField, Lone}
+use Rattle.instruction_deep.proofs.Deciding.{holds}
 use Rattle.instruction_deep.proofs.Items.{bounds}
 use Rattle.instruction_deep.proofs.Heads.{no_dword, bare_head}
 use Rattle.instruction_deep.proofs.Runs.{begin, finished, first_bounds, third_bounds, all_parts_lem}
@@ -66,7 +64,7 @@ module _ (q : List ℕ) (x : Shape) (g : Declared (at 2 q) x) (b : at 2 q < 2048
   by_shape = sym g.laid.meaning
 
   kind_4 : (layout c).kind ≡ 4
-  kind_4 = ap (λ (y : Layout). y.kind) by_shape ∙ g.kind
+  kind_4 = ap (λ (y : Layout). y.kind) by_shape ∙ ap kind_number g.kind
 
   -- codes of another kind declare nothing
   of_another : (k : ℕ) (cs : List ℕ) → map (λ c. (layout c).kind) cs ≡ map (λ c. k) cs → (k ≡ 4 → ⊥) → within c cs ≡ false
@@ -164,26 +162,6 @@ module _ (q : List ℕ) (x : Shape) (g : Declared (at 2 q) x) (b : at 2 q < 2048
         head = head;
       })
 
--- ---- whether a row has only a field
-in_token : (c f n : ℕ) → c < 2048 → f < 2 ^ 13 → bits 11 23 (c + f * 2 ^ 11 + n * 2 ^ 24) ≡ f
-in_token c f n hc hf = let z : (c + f * 2 ^ 11 + n * 2 ^ 24) / 2 ^ 11 ≡ f + n * 2 ^ 13 = omega arith in rw z (omega arith)
-
-module _ (l : List ℕ) (i : ℕ) (x : Shape) where
-  pub field_row : (get_or l (i + 4) 0 ≡ 0) × (get_or l (i + 5) 0 ≡ 0) → get_or l (i + 6) 0 ≡ 0 → Unchained (row_from i l) 0 → get_or l (i + 2) 0 < 2048 → get_or l (i + 1) 0 < 128 → Fitting x (get_or l (i + 7) 0) → OnlyField (row_from i l) x
-  field_row (e₄, e₅) e₆ u h₂ h₁ k =
-      let f : Fitting x (at 7 (row_from i l)) = rw (row_at l i 7 (lit< tt)) k in
-      let z : bits 11 23 (short_token (row_from i l)) ≡ at 7 (row_from i l) = in_token (at 2 (row_from i l)) (at 7 (row_from i l)) (at 1 (row_from i l)) (omega (arith, row_at l i 2 (lit< tt))) f.narrow in
-      record {
-        no_saturate = row_at l i 4 (lit< tt) ∙ e₄;
-        no_test = row_at l i 5 (lit< tt) ∙ e₅;
-        no_precise = row_at l i 6 (lit< tt) ∙ e₆;
-        no_chain = u;
-        short = omega (arith, row_at l i 1 (lit< tt));
-        narrow = f.narrow;
-        field_is = f.field_is _ z;
-        bounds = f.bounds _ z;
-      }
-
 -- ---- an operand that stands alone
 no_rows : {left : ℕ} {rs ws : List ℕ} {r w k p v n : ℕ} → Run left rs ws r w k p v n → k ≡ 0 → (p ≡ 0) × (n ≡ 0)
 no_rows empty e = (refl, refl)
@@ -198,67 +176,56 @@ own_dwords {rs = rs} {r = r} (next {p = p} {n = n} t e₁) e =
     u ∙ get_or-drop (16 * (r + p)) rs 15 0 ∙ ap (λ (j : ℕ). get_or rs (16 * j + 15) 0) y
 
 module _ (k : ℕ) (rs ws : List ℕ) (r w : ℕ) (h : w ≤ length ws) where
-  pub lost_lone : Lone k rs ws r w Off
-  lost_lone v e = impossible (cc)
-
-  pub no_lone : k ≡ 0 → Lone k rs ws r w (At w)
-  no_lone z v e =
-      let y : w ≡ v = (cc) in
+  pub no_lone : k ≡ 0 → Lone k rs ws r w (Some w)
+  no_lone z =
       let a : r ≡ r + k = omega arith in
-      let b : 0 ≡ k + (v - w) = omega arith in
-      subst (Runs k rs ws r w) (λ i. To (a i) (y i) (b i)) (finished (begin k rs ws r w h) (omega arith))
+      let b : 0 ≡ k + (w - w) = omega arith in
+      subst (Runs k rs ws r w) (λ i. some_parts (a i) w (b i)) (finished (begin k rs ws r w h) (omega arith))
 
-  module _ (l : k ≤ 1) (z : k ≡ 0 → ⊥) {n : ℕ} (f : 0 < n → Ran rs r w 1 (length ws) (n - 1)) (en : n ≡ 1) {y : ℕ} (ey : y ≡ get_or rs (16 * r + 15) 0) where
-    ran : Ran rs r w 1 (length ws) 0
-    ran = subst (λ (j : ℕ). Ran rs r w 1 (length ws) (j - 1)) en (f (omega arith))
+  module _ (l : k ≤ 1) (z : k ≡ 0 → ⊥) {x : Ran} (f : IsRun rs r w 1 (length ws) x) (er : x.rows ≡ 0) (ed : x.dwords ≡ 0) where
+    abbrev y : ℕ
+    y = get_or rs (16 * r + 15) 0
 
-    lone_size : y ≡ 1 + (ran.past - w)
+    lone_size : y ≡ 1 + (f.past - w)
     lone_size =
-        let a : 1 + (ran.past - w) + 0 % 2 ^ 40 ≡ get_or rs (16 * r + 15) 0 = own_dwords (ran.runs 62 ws refl) refl in
+        let a : 1 + (f.past - w) + x.dwords ≡ y = own_dwords (f.runs 62 ws refl) refl in
         omega arith
 
     pub lone_fits : (1 ≤ y) × (w + y ≤ length ws + 1)
-    lone_fits = (omega (arith, lone_size), omega (arith, lone_size, ran.words_from, ran.words_to))
+    lone_fits = (omega (arith, lone_size), omega (arith, lone_size, f.words_from, f.words_to))
 
-    pub one_lone : Lone k rs ws r w (At (w + y - 1))
-    one_lone v e m =
-        let a : w + y - 1 ≡ v = (cc) in
-        let b : ran.past ≡ v = omega (arith, lone_size, ran.words_from) in
-        let d : 1 + (ran.past - w) + 0 % 2 ^ 40 ≡ 1 + (v - w) = omega arith in
-        let p : r + (1 + 0 / 2 ^ 40) ≡ r + 1 = omega arith in
+    pub one_lone : Lone k rs ws r w (Some (w + y - 1))
+    one_lone =
+        let v : ℕ = w + y - 1 in
+        let b : f.past ≡ v = omega (arith, lone_size, f.words_from) in
+        let d : 1 + (f.past - w) + x.dwords ≡ 1 + (v - w) = omega (arith, b) in
+        let p : r + (1 + x.rows) ≡ r + 1 = omega arith in
         let j : 1 ≡ k = omega (arith, z) in
-        let one : Runs 1 rs ws r w (To (r + 1) v (1 + (v - w))) = subst (Runs 1 rs ws r w) (λ i. To (p i) (b i) (d i)) (run_takes (ran.runs 62 ws refl) h) in
-        subst (λ (c : ℕ). Runs c rs ws r w (To (r + c) v (c + (v - w)))) j one m
+        let one : Runs 1 rs ws r w (some_parts (r + 1) v (1 + (v - w))) = subst (Runs 1 rs ws r w) (λ i. some_parts (p i) (b i) (d i)) (run_takes (f.runs 62 ws refl) h) in
+        subst (λ (c : ℕ). Runs c rs ws r w (some_parts (r + c) v (c + (v - w)))) j one
 
 -- ---- walking it
-module _ (m : Bool) (x : Shape) (rs ws : List ℕ) (r w : ℕ) (hw : w ≤ length ws) (p : Place) (ep : p ≡ words_on (length ws) w x.before) (a : ℕ) (ea : p ≡ At a) {u : Place} (lone : Lone x.operands rs ws r a u) (b : ℕ) (eb : u ≡ At b) where
-  run : Runs x.operands rs ws r a (To (r + x.operands) b (x.operands + (b - a)))
-  run = lone b eb
-
+module _ (m : Bool) (x : Shape) (rs ws : List ℕ) (r w : ℕ) (hw : w ≤ length ws) (p : Option ℕ) (ep : p ≡ dwords_on (length ws) w x.before) (a : ℕ) (ea : p ≡ Some a) (b : ℕ) (run : Runs x.operands rs ws r a (some_parts (r + x.operands) b (x.operands + (b - a)))) where
   pub behind_lone : (a ≤ b) × (b ≤ length ws)
   behind_lone = let s = bounds (run m) in (s.words_from, s.words_to)
 
-  module _ (v : Place) (last : PassesIn m (rest x) ws b v) (end : ℕ) (ee : v ≡ At end) where
+  module _ (z : Sound x) (v : Option ℕ) (ev : v ≡ rest_on m x ws b) (end : ℕ) (ee : v ≡ Some end) where
     pub ends : (w ≤ end) × (end ≤ length ws)
     ends =
         let f = first_bounds m x rs ws r w hw p ep a ea in
-        let t = third_bounds m x rs ws r w hw p ep a ea run _ b _ refl v last end ee in
+        let t = third_bounds m x rs ws r w hw p ep a ea run _ refl z v ev end ee in
         (omega (arith, f, behind_lone, t), t.1)
 
-    declared_parts : Takes m (items_of x) x.operands rs ws r w (To (r + x.operands) end (x.operands + (end - w)))
+    declared_parts : Takes m (items_of x) x.operands rs ws r w (some_parts (r + x.operands) end (x.operands + (end - w)))
     declared_parts =
         let f = first_bounds m x rs ws r w hw p ep a ea in
-        let t = third_bounds m x rs ws r w hw p ep a ea run _ b _ refl v last end ee in
-        let z : a - w + (x.operands + (b - a)) + (end - b) ≡ x.operands + (end - w) = omega (arith, f, behind_lone, t) in
-        rw z at (all_parts_lem m x rs ws r w hw p ep a ea run _ b _ refl v last end ee)
+        let t = third_bounds m x rs ws r w hw p ep a ea run _ refl z v ev end ee in
+        let y : a - w + (x.operands + (b - a)) + (end - b) ≡ x.operands + (end - w) = omega (arith, f, behind_lone, t) in
+        rw y at (all_parts_lem m x rs ws r w hw p ep a ea run _ refl z v ev end ee)
 
-    module _ (l : List ℕ) (i place : ℕ) (h : i + 16 ≤ length l) (hc : get_or l (i + 2) 0 < 2048) (g : Declared (get_or l (i + 2) 0) x) {c : Bool} (o : c ≡ true → OnlyField (row_from i l) x) (hf : not c ≡ false) {d : Bool} (pl : Decides (Placed (row_from i l) place x.kind r x.operands w (end - w)) d) (hd : not d ≡ false) where
-      pub declared_walks : {k n y : ℕ} → k ≡ x.operands → 1 + k + (end - w) ≡ n → y ≡ get_or l (i + 1) 0 → y ≡ n → (n < 128) × (Is (get_or l (i + 13) 0) n ≡ walked_instruction (confirm_known m (row_from i l) place (drop (16 * r) rs) (drop w ws) r w))
-      declared_walks {k} {n} {y} ek en ey eq =
-          let q₂ : at 2 (row_from i l) ≡ get_or l (i + 2) 0 = row_at l i 2 (lit< tt) in
-          let z : at 1 (row_from i l) ≡ 1 + (x.operands + (end - w)) = row_at l i 1 (lit< tt) ∙ sym ey ∙ omega arith in
-          let o₁ : get_or l (i + 13) 0 ≡ x.operands = sym (row_at l i 13 (lit< tt)) ∙ (granted pl (not-false d hd)).operands_are in
-          let j : get_or l (i + 13) 0 ≡ r + x.operands - r = omega arith in
-          let f = o (not-false c hf) in
-          let s : Pieces (row_from i l) (x.operands + (end - w)) = declared_pieces (row_from i l) x (rw q₂ g) (omega arith) f _ z in
-          (omega (arith, f.short), ap (λ (c : ℕ). Is c n) j ∙ walks l i place m rs ws r w h x g.laid declared_parts _ _ _ refl pl hd {c = true} (holds s) refl n (sym eq ∙ ey))
+    pub declared_walks : (q : List ℕ) (place : ℕ) → length q ≡ 16 → at 2 q < 2048 → Declared (at 2 q) x → OnlyField q x → {kind : ℕ} → kind ≡ kind_number x.kind → Placed q place kind r x.operands w (end - w) → at 1 q ≡ 1 + x.operands + (end - w) →
+        some_walked x.operands (1 + x.operands + (end - w)) ≡ walked_instruction (confirm_known m q place (drop (16 * r) rs) (drop w ws) r w)
+    declared_walks q place h hc g f ek pl e =
+        let j : x.operands ≡ r + x.operands - r = omega arith in
+        let s : Pieces q (x.operands + (end - w)) = declared_pieces q x g hc f _ (omega arith) in
+        (λ i. some_walked (j i) (sym e i)) ∙ walks q place m rs ws r w h x g.laid declared_parts _ refl ek (holds pl) refl (holds s) refl

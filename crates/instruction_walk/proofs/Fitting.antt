@@ -7,7 +7,7 @@ use native.Mathlib.Decide.{ℕ_discrete}
 use native.Mathlib.Omega.{arith}
 use lib.Dec.{ltb, leb}
 use lib.Pow.{pow_mono, mod-mod-pow, shr-shr}
-use borrow.Author.Tests.{ltb-true}
+use borrow.Author.Tests.{ltb-true, le-leb}
 use Rattle.format.specs.Dwords.{bits}
 use Rattle.format.specs.Declarations.{field_in, in_bounds}
 use Rattle.layouts.specs.Shapes.{Sound, field_of}
@@ -27,7 +27,7 @@ stepped d x e n = let z : x.first ≡ 11 + d / 0x100 % 2 * 5 = ap (λ (y : Shape
 
 module _ (x : Shape) (h : Sound x) (f : ℕ) where
   width_most : x.width ≤ 13
-  width_most = omega (arith, h.bits_from_lem, h.bits_to)
+  width_most = omega (arith, h.bits_from, h.bits_to)
 
   -- bits that begin at bit 16
   module _ (n : x.first ≡ 11 → ⊥) (s : Stepped x) (z : f % 32 ≡ 0) (l : ltb (f / 32) ((1 * 2 ^ x.width) % 4294967296) ≡ true) where
@@ -78,8 +78,9 @@ module _ (x : Shape) (h : Sound x) (f : ℕ) where
     pub near_fits : x.bounded ≡ 0 → Fitting x f
     near_fits z = near (λ t e. sym (fields.unbounded x t h z))
 
-    pub bounded_fits : (x.bounded ≡ 0 → ⊥) → (leb x.lo (f % ((1 * 2 ^ x.bounded) % 4294967296)) && leb (f % ((1 * 2 ^ x.bounded) % 4294967296)) x.hi) ≡ true → Fitting x f
-    bounded_fits n k = near (λ t e.
+    pub bounded_fits : (x.bounded ≡ 0 → ⊥) → x.lo ≤ f % ((1 * 2 ^ x.bounded) % 4294967296) → leb (f % ((1 * 2 ^ x.bounded) % 4294967296)) x.hi ≡ true → Fitting x f
+    bounded_fits n a b = near (λ t e.
+        let k : (leb x.lo (f % ((1 * 2 ^ x.bounded) % 4294967296)) && leb (f % ((1 * 2 ^ x.bounded) % 4294967296)) x.hi) ≡ true = rw (le-leb _ _ a) b in
         let m : x.bounded ≤ 13 = omega (arith, h.bounded, width_most) in
         let z : t / 2048 % ((1 * 2 ^ x.bounded) % 4294967296) ≡ f % ((1 * 2 ^ x.bounded) % 4294967296) = rw (fields.shifted x.bounded m) (low_bits (t / 2048) 13 x.bounded f m e) in
         sym (fields.bounds x t h n) ∙ rw z k)

@@ -1,5 +1,5 @@
 -- What the short ways over a usual row answer.
-use Rattle.std.specs.Prelude.{ℕ, ◌+◌, ◌-◌, ◌*◌, ◌^◌, ◌<◌, ◌≡◌, List, [], ◌∷◌, Bool, true, cond, ltb}
+use Rattle.std.specs.Prelude.{ℕ, ◌+◌, ◌-◌, ◌*◌, ◌^◌, ◌<◌, ◌≡◌, List, [], ◌∷◌, Bool, true, cond, ltb, Option, Some, IfSome}
 use Rattle.std.proofs.Math.Option.{some as just}
 use Rattle.format.specs.Dwords.{bits}
 use Rattle.format.specs.Counts.{within, operand_count}
@@ -7,13 +7,9 @@ use Rattle.format.specs.Declarations.{field_in, in_bounds}
 use Rattle.format.specs.Encoder.{at, chain_of}
 use Rattle.layouts.specs.Shapes.{field_of}
 use Rattle.layouts.specs.declared.Shape.{Shape}
-use Rattle.instruction_fields.specs.declared.Place.{Place}
-use Rattle.instruction_fields.specs.declared.Place.TheVariants.{At}
 use Rattle.instruction_deep.specs.Confirm.{confirm_known}
 use Rattle.instruction_deep.specs.declared.Walked.{Walked}
-use Rattle.instruction_deep.specs.declared.Walked.TheVariants.{Is}
-use Rattle.instruction_deep.specs.declared.Parts.TheVariants.{To}
-use Rattle.instruction_deep.specs.Walks.{walked_instruction, Runs, Unchained, Chained}
+use Rattle.instruction_deep.specs.Walks.{walked_instruction, some_parts, Runs, Unchained, Chained}
 
 -- a row of a code with k operands
 pub record Counted (q : List ℕ) (k : ℕ) : Type 0 where
@@ -50,12 +46,12 @@ abbrev pub Linked : List ℕ → Type 0
 Linked q = Chained (ltb 0 (at 8 q)) (at 8 q) (at 9 q) (at 10 q) (at 11 q)
 
 -- what walking answers of a known code, in either model
-abbrev pub Known : List ℕ → ℕ → List ℕ → List ℕ → ℕ → ℕ → Walked → Type 0
+abbrev pub Known : List ℕ → ℕ → List ℕ → List ℕ → ℕ → ℕ → Option Walked → Type 0
 Known q place rs ws r w a = (m : Bool) → a ≡ walked_instruction (confirm_known m q place rs ws r w)
 
 -- the same, if there is an answer
-abbrev pub KnownIf : List ℕ → ℕ → List ℕ → List ℕ → ℕ → ℕ → Walked → Type 0
-KnownIf q place rs ws r w a = (i n : ℕ) → a ≡ Is i n → Known q place rs ws r w a
+abbrev pub KnownIf : List ℕ → ℕ → List ℕ → List ℕ → ℕ → ℕ → Option Walked → Type 0
+KnownIf q place rs ws r w a = IfSome a (λ x. Known q place rs ws r w (Some x))
 
 -- a declaration's field begins at bit 11 or 16
 abbrev pub Stepped : Shape → Type 0
@@ -82,6 +78,6 @@ pub record OnlyField (q : List ℕ) (x : Shape) : Type 0 where
   pub field_is : field_in (field_of x) (short_token q) ≡ at 7 q
   pub bounds : in_bounds (field_of x) (short_token q) ≡ true
 
--- k operands without an extension, each in a row of its own, stand between two words; Off says nothing
-abbrev pub Lone : ℕ → List ℕ → List ℕ → ℕ → ℕ → Place → Type 0
-Lone k rs ws r w p = (v : ℕ) → p ≡ At v → Runs k rs ws r w (To (r + k) v (k + (v - w)))
+-- k operands without an extension, each in a row of its own, stand between two words; None says nothing
+abbrev pub Lone : ℕ → List ℕ → List ℕ → ℕ → ℕ → Option ℕ → Type 0
+Lone k rs ws r w p = IfSome p (λ v. Runs k rs ws r w (some_parts (r + k) v (k + (v - w))))
