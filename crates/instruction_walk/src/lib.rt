@@ -214,9 +214,9 @@ fn short_declaration(
     Some(Walked { rows, dwords })
 }
 
-// Walks the instruction that `walk` would walk, of a code with a count or of a declaration, where its row is usual and its
-// operands stand alone, as many as the row tells, or have one operand in an index. None says nothing.
-pub fn usual(
+// Walks the instruction that `walk` walks, of a code with a count or of a declaration, where its row is usual and its operands
+// stand alone, as many as the row tells, or have one operand in an index. None says nothing.
+fn usual(
     instruction: &[u32; 16],
     place: usize,
     ceiling: u32,
@@ -240,9 +240,8 @@ pub fn usual(
     short_declaration(instruction, place, model51, operands, row, words, word, s)
 }
 
-// Walks the instruction of a row whose token stands at a place, from an operand row on and a word on; the words end with the
-// instruction's own. Codes from the ceiling on are unread.
-pub fn walk(
+// Walks it the general way.
+fn general(
     instruction: &[u32; 16],
     place: usize,
     ceiling: u32,
@@ -265,4 +264,45 @@ pub fn walk(
         }
     }
     known(instruction, place, model51, operands, row, words, word)
+}
+
+// Walks the instruction of a row whose token stands at a place, from an operand row on and a word on; the words end with the
+// instruction's own. Codes from the ceiling on are unread.
+pub fn walk(
+    instruction: &[u32; 16],
+    place: usize,
+    ceiling: u32,
+    model51: bool,
+    operands: &[u32],
+    row: usize,
+    words: &[u32],
+    word: usize,
+) -> Option<Walked>
+    requires { (word ≤ length words.now) × (ceiling ≤ 2048) }
+    ensures { result ≡ walked_instruction (c.confirm_instruction ceiling model51 instruction.now place (drop (16 * row) operands.now) (drop word words.now) row word) }
+{
+    if words.len() < 0x1_0000_0000 {
+        if let Some(walked) = usual(
+            instruction,
+            place,
+            ceiling,
+            model51,
+            operands,
+            row,
+            words,
+            word,
+        ) {
+            return Some(walked);
+        }
+    }
+    general(
+        instruction,
+        place,
+        ceiling,
+        model51,
+        operands,
+        row,
+        words,
+        word,
+    )
 }

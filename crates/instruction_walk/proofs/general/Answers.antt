@@ -1,5 +1,5 @@
 use Rattle.instruction_walk.proofs.Ceiling.{by_unread, by_known}
-use Rattle.instruction_walk.proofs.walk.Goals as goal
+use Rattle.instruction_walk.proofs.general.Goals as goal
 
 pub returns-then-ceiling-code : goal.returns-then-ceiling-code
 returns-then-ceiling-code c = by_unread c.args.instruction.now c.args.place c.args.ceiling c.args.model51 c.args.operands.now c.args.words.now c.args.row c.args.word c.if-ceiling-code.true c.unread.ensures
