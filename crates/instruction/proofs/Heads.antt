@@ -1,16 +1,16 @@
 -- What stands before the operands of an instruction whose code has a count: a plain token, or one with a chain behind it.
 use Prim.Native.Nat.{ℕ, ◌+◌, ◌-◌, ◌*◌, ◌/◌, ◌%◌, ◌^◌, ◌<◌, ◌≤◌}
-use mathlib.Core.Path.{◌≡◌, refl, sym, ap, ◌∙◌, subst}
+use mathlib.Core.Path.{◌≡◌, refl, sym, ap, ◌∙◌}
 use mathlib.Core.List.{List, []}
 use mathlib.Core.Bool.{Bool, true, false, ◌||◌}
 use mathlib.Core.Option.{some}
 use native.Mathlib.Nat.{mod-one, mul-one}
 use native.Mathlib.Omega.{arith}
-use lib.ListN.{length, drop, take}
-use lib.Seq.{slice, take_all}
+use lib.ListN.{length, drop}
+use lib.Seq.{slice}
 use lib.Dec.{eqb}
 use borrow.Author.Tests.{eqb-true, eq-eqb}
-use Rattle.format.specs.Dwords.{bits, follows, chain, dwords_of}
+use Rattle.format.specs.Dwords.{bits, follows, chain}
 use Rattle.format.specs.Framing.{code}
 use Rattle.format.specs.Counts.{operand_count, token_with, rising}
 use Rattle.format.specs.Declarations.{Layout, layout, field_in}
@@ -124,14 +124,3 @@ if_risen {b} {k} {r} P e f = rw e (go b f)
     go : (c : Bool) → (c ≡ true → P k) → IfSome (then_some c k) P
     go true f = f refl
     go false f = tt
-
--- ---- a part that is lent whole
-module _ (part : List ℕ) where
-  lent : take (length part - 0) part ≡ part
-  lent = take_all (length part - 0) part (omega arith)
-
-  pub lent_there : 0 < length (dwords_of part) → 0 < length (dwords_of (take (length part - 0) part))
-  lent_there h = rw lent h
-
-  pub lent_begun : {t at : ℕ} → Begun t (dwords_of (take (length part - 0) part)) at → Begun t (dwords_of part) at
-  lent_begun {t} {at} h = subst (λ (l : List ℕ). Begun t (dwords_of l) at) lent h

@@ -16,7 +16,7 @@ use Rattle.std.specs.Prelude.{Some}
 use Rattle.instruction_fields.specs.Fields.{Ends, rest, sum_of, bare_token, IsSmall, Declared}
 use Rattle.instruction.specs.Measure.{Ran, fine, body_of, verdict, Behind, Quick}
 use Rattle.instruction_fields.proofs.Passing.{passes_dwords, no_list}
-use Rattle.instruction.proofs.Runs.{begin, finished, one_ran}
+use Rattle.instruction.proofs.Runs.{one_ran}
 use Rattle.instruction_fields.proofs.Rests.{ends_there}
 use Rattle.instruction.proofs.Shaped.{body_read}
 use Rattle.instruction.proofs.Usually.{Long}
@@ -59,12 +59,6 @@ module _ (t : ℕ) (x : Shape) (l : Declared (code t) x) (bare : bare_token x t 
 
 -- ---- the operand
 module _ (k : ℕ) (ds : List ℕ) (at : ℕ) where
-  pub none_behind : k ≡ 0 → Behind k ds at at
-  none_behind z = record {
-    few = omega arith;
-    run = λ e. let a : at - at - k ≡ 0 = omega arith in rw (a, z) (finished (begin 0 ds at e) (omega arith));
-  }
-
   pub one_behind : k ≤ 1 → (k ≡ 0 → ⊥) → at < length ds → (n : ℕ) → Long ds at n → Behind k ds at (at + n)
   one_behind a b l n y = record {
     few = omega (arith, y.few);

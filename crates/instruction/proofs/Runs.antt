@@ -53,10 +53,6 @@ module _ {k : ℕ} {ds : List ℕ} {from i at rows words : ℕ} {exact : Bool} (
       adds = λ m l. q.adds m l ∙ ap (add rows words exact) (next m l) ∙ add_add rows words r w exact e (sum_of m (replicate (k - (i + 1)) o ++ l) (drop (at + d) ds));
     }
 
-    -- so sums stay below the number of dwords
-    pub small : (rows + r + (words + w) ≤ length ds) × (at + d ≤ length ds)
-    small = (omega (arith, turn.fits, turn.within), turn.within)
-
   pub stopped : i < k → op.operand 64 (drop at ds) ≡ malformed → Run k ds from None
   stopped h e m l =
       q.adds m l ∙ ap (add rows words exact) (ap (λ (y : List Item). sum_of m y (drop at ds)) (one_less k i l h) ∙ item_off m o (replicate (k - (i + 1)) o ++ l) (drop at ds) (unfold read_item in e))

@@ -75,30 +75,6 @@ pub struct Surplus {
     pub exact: bool,
 }
 
-// Measures so many operands from a place on; none if one is malformed.
-fn operands_of(part: &[u8], from: usize, count: u32) -> Option<Operands>
-    requires { from ≤ length (dwords_of part.now) }
-    ensures { Run count (dwords_of part.now) from result }
-{
-    let mut rows = 0;
-    let mut words = 0;
-    let mut end = from;
-    let mut exact = true;
-    for _i in 0..count {
-        let next = operand::measure(part, end, 64)?;
-        rows += next.rows;
-        words += next.words;
-        end += next.dwords;
-        exact = exact & next.exact;
-    }
-    Some(Operands {
-        rows,
-        words,
-        end,
-        exact,
-    })
-}
-
 // Why an instruction is refused whose dwords are not those of its layout: by 13 if it has a count, above 0; by 14 otherwise.
 fn fault_of(s: Shape) -> Fault
     requires { Sound s }
@@ -128,12 +104,9 @@ fn beside(part: &[u8], at: usize) -> Option<Measured>
     ensures { result ≡ measured (op.operand 64 (drop at (dwords_of part.now))) }
 {
     let n = dwords(part) - at;
-    if n < 2 {
-        return operand::deep(part, at, 64);
-    }
     let t = dword(part, at);
-    if !extends(t, dword(part, at + 1)) {
-        return operand::deep(part, at, 64);
+    if n < 2 || !extends(t, dword(part, at + 1)) {
+        return operand::measure(part, at, 64);
     }
     let indices = dimension(t) as usize;
     if n - 2 < indices {
@@ -161,9 +134,9 @@ fn unusual(part: &[u8], at: usize) -> Option<Surplus>
     })
 }
 
-// Measures so many operands that stand behind a head; none if one is malformed. Most are usual, and are passed by the
-// number of their dwords; the rows and dwords that others have beside are counted apart.
-fn plain_operands(part: &[u8], from: usize, count: u32) -> Option<Operands>
+// Measures so many operands from a place on; none if one is malformed. Most are usual, and are passed by the number of
+// their dwords; the rows and dwords that others have beside are counted apart.
+fn operands_of(part: &[u8], from: usize, count: u32) -> Option<Operands>
     requires { from ≤ length (dwords_of part.now) }
     ensures { Run count (dwords_of part.now) from result }
 {
@@ -271,7 +244,7 @@ impl<'a> Instruction<'a> {
         requires { (operand_count (code self.token) ≡ some n) × Begins self.token (dwords_of self.part.now) from }
         ensures { Judged self.entry.token (dwords_of self.entry.part.now) result }
     {
-        let Some(operands) = plain_operands(self.part, from, n) else {
+        let Some(operands) = operands_of(self.part, from, n) else {
             return Err(Fault::Miscounted);
         };
         if !operands.exact {

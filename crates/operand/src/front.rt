@@ -83,7 +83,7 @@ impl<'a> Front<'a> {
     }
 
     // Measures an operand by its indices, one after the other.
-    #[cycle(deep_index_tree)]
+    #[cycle(measure_index_tree)]
     pub fn tree(&self, left: usize) -> Option<Measured>
         requires { 0 < left }
         ensures { result ≡ m.measured (op.read_indices (op.operand (left - 1)) self.now.token (m.extensions self.now) (m.behind self.now)) }

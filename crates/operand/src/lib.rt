@@ -20,7 +20,7 @@ pub struct Measured {
 }
 
 // Measures an index of a representation at a place; none if it is malformed.
-#[cycle(deep_index_tree)]
+#[cycle(measure_index_tree)]
 fn index(part: &[u8], at: usize, r: u32, left: usize) -> Option<Measured>
     requires { (at ≤ length (dwords_of part.now)) × (0 < left) }
     ensures { result ≡ m.measured (op.read_index (op.operand (left - 1)) r (drop at (dwords_of part.now))) }
@@ -40,7 +40,7 @@ fn index(part: &[u8], at: usize, r: u32, left: usize) -> Option<Measured>
             exact: true,
         });
     }
-    let inner = deep(part, at + own, left - 1)?;
+    let inner = measure(part, at + own, left - 1)?;
     Some(Measured {
         words: own + inner.words,
         dwords: own + inner.dwords,
@@ -48,9 +48,9 @@ fn index(part: &[u8], at: usize, r: u32, left: usize) -> Option<Measured>
     })
 }
 
-// Measures any operand; none if it is malformed.
-#[cycle(deep_index_tree)]
-pub fn deep(part: &[u8], at: usize, left: usize) -> Option<Measured>
+// Measures an operand at a place, with so many depths left: 64 at depth 0; none if it is malformed.
+#[cycle(measure_index_tree)]
+pub fn measure(part: &[u8], at: usize, left: usize) -> Option<Measured>
     ensures { result ≡ m.measured (op.operand left (drop at (dwords_of part.now))) }
 {
     let front = Front::read(part, at, left)?;
@@ -61,33 +61,4 @@ pub fn deep(part: &[u8], at: usize, left: usize) -> Option<Measured>
         return front.flat();
     }
     front.tree(left)
-}
-
-// Measures an operand at a place, with so many depths left: 64 at depth 0; none if it is malformed. Most have neither
-// extensions nor representations, and go a short way.
-pub fn measure(part: &[u8], at: usize, left: usize) -> Option<Measured>
-    ensures { result ≡ m.measured (op.operand left (drop at (dwords_of part.now))) }
-{
-    if left == 0 {
-        return None;
-    }
-    if tokens::dwords(part) <= at {
-        return None;
-    }
-    let token = tokens::dword(part, at);
-    if token >= 0x40_0000 {
-        return deep(part, at, left);
-    }
-    let exact = tokens::exact_dword(token);
-    let front = Front {
-        part,
-        at,
-        token,
-        body: at + 1,
-        exact,
-    };
-    if tokens::immediate(token) {
-        return front.leaf();
-    }
-    front.flat()
 }

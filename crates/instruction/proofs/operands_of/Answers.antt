@@ -1,20 +1,50 @@
+-- Usual operands are passed by their length, others are measured.
+use Prim.Native.Nat.{◌<◌}
 use native.Mathlib.Omega.{arith}
+use lib.ListN.{length}
+use Rattle.format.specs.Dwords.{dwords_of}
 use Rattle.format.proofs.Dwords.{length_dwords}
-use Rattle.operand.proofs.Seen.{operand_seen, lost}
-use Rattle.instruction.proofs.Runs.{turn, small, stopped}
+use Rattle.instruction.proofs.Usually.{start, long, lost_past, lost_off, lost_deep, past_usual, surpassed, surplus_lost, room, past_other, passed}
 use Rattle.instruction.proofs.operands_of.Goals as goal
+use Rattle.instruction.proofs.operands_of.Goals.{in-Some, in-None+in_ok-other-in-None}
 
-pub returns-in_err-next : goal.returns-in_err-next
-returns-in_err-next c = rw c.from_residual.ensures (stopped c.loop-i.invariant (omega arith) (lost _ c.in_err-next.ensures))
+pub loop-i-init : goal.loop-i-init
+loop-i-init c = start _ _ _ c.requires
 
-pub overflow_add-rows : goal.overflow_add-rows
-overflow_add-rows c = omega (arith, (small c.loop-i.invariant (omega arith) (operand_seen _ _ _ c.loop-i.invariant.within _ c.in_ok-next.ensures)).0, length_dwords c.args.part.now, c.well_formed)
-
-pub overflow_add-words : goal.overflow_add-words
-overflow_add-words c = omega (arith, (small c.loop-i.invariant (omega arith) (operand_seen _ _ _ c.loop-i.invariant.within _ c.in_ok-next.ensures)).0, length_dwords c.args.part.now, c.well_formed)
+pub returns-then-n-end : goal.returns-then-n-end
+returns-then-n-end c = lost_past c.loop-i.invariant (omega arith) (omega (arith, c.dwords-n.ensures, c.if-n-end.true))
 
 pub overflow_add-end : goal.overflow_add-end
-overflow_add-end c = omega (arith, (small c.loop-i.invariant (omega arith) (operand_seen _ _ _ c.loop-i.invariant.within _ c.in_ok-next.ensures)).1, length_dwords c.args.part.now, c.well_formed)
+overflow_add-end c = omega (arith, (long (dwords_of c.args.part.now) c.loop-i.end (omega (arith, c.dwords-n.ensures, c.if-n-end.false)) _ c.dword.ensures _ c.in-Some.ensures).few, c.dwords-n.ensures, c.if-n-end.false, length_dwords c.args.part.now, c.well_formed)
+
+pub returns-in_err-other-in-None : goal.returns-in_err-other-in-None
+returns-in_err-other-in-None c = rw c.from_residual.ensures (lost_deep c.loop-i.invariant (omega arith) (surplus_lost _ c.in_err-other-in-None.ensures))
+
+pub overflow_add-more : goal.overflow_add-more
+overflow_add-more c =
+    let there : c.loop-i.end < length (dwords_of c.args.part.now) = omega (arith, c.dwords-n.ensures, c.if-n-end.false) in
+    omega (arith, room c.loop-i.invariant (omega arith) there (surpassed _ _ (omega arith) _ c.in_ok-other-in-None.ensures), length_dwords c.args.part.now, c.well_formed)
+
+pub overflow_add-skipped : goal.overflow_add-skipped
+overflow_add-skipped c =
+    let there : c.loop-i.end < length (dwords_of c.args.part.now) = omega (arith, c.dwords-n.ensures, c.if-n-end.false) in
+    omega (arith, room c.loop-i.invariant (omega arith) there (surpassed _ _ (omega arith) _ c.in_ok-other-in-None.ensures), length_dwords c.args.part.now, c.well_formed)
+
+pub overflow_add-end-in-None : goal.overflow_add-end-in-None
+overflow_add-end-in-None c =
+    let there : c.loop-i.end < length (dwords_of c.args.part.now) = omega (arith, c.dwords-n.ensures, c.if-n-end.false) in
+    omega (arith, room c.loop-i.invariant (omega arith) there (surpassed _ _ (omega arith) _ c.in_ok-other-in-None.ensures), length_dwords c.args.part.now, c.well_formed)
 
 pub loop-i-preserved : goal.loop-i-preserved
-loop-i-preserved c = turn c.loop-i.invariant (omega arith) (operand_seen _ _ _ c.loop-i.invariant.within _ c.in_ok-next.ensures)
+loop-i-preserved c =
+    let there : c.loop-i.end < length (dwords_of c.args.part.now) = omega (arith, c.dwords-n.ensures, c.if-n-end.false) in
+    elim c.match-usual_length.branch [
+      | in-Some w ↦ rw (w.more-is, w.skipped-is, w.end-is, w.exact-is) (past_usual c.loop-i.invariant (omega arith) there _ (long (dwords_of c.args.part.now) c.loop-i.end there _ c.dword.ensures _ w.in-Some.ensures))
+      | in-None+in_ok-other-in-None w ↦ rw (w.more-is, w.skipped-is, w.end-is, w.exact-is) (past_other c.loop-i.invariant (omega arith) there (surpassed _ _ (omega arith) _ w.in_ok-other-in-None.ensures))
+    ]
+
+pub returns-then-n-end-2 : goal.returns-then-n-end-2
+returns-then-n-end-2 c = lost_off c.loop-i.invariant (omega (arith, c.dwords-n.ensures, c.if-n-end-2.true))
+
+pub returns : goal.returns
+returns c = passed c.loop-i.invariant (omega arith) (omega (arith, c.dwords-n.ensures, c.if-n-end-2.false))

@@ -1,13 +1,11 @@
 -- Operands and tail, in the order of the definition.
-use mathlib.Core.Path.{refl}
-use lib.ListN.{get_or}
 use borrow.Author.Tests.{not-true, not-false}
 use Rattle.format.specs.Dwords.{dwords_of}
 use Rattle.instruction.proofs.Counted.{front, operands_lost, operands_inexact, operands_fine}
 use Rattle.instruction.proofs.Instruction.measure_plain.Goals as goal
 
-pub plain_operands-requires : goal.plain_operands-requires
-plain_operands-requires c = let ds = dwords_of c.args.self.part.now in (front ds c.args.self.token c.args.n c.args.self.some c.args.self.first c.requires.0 c.requires.1).within
+pub operands_of-requires : goal.operands_of-requires
+operands_of-requires c = let ds = dwords_of c.args.self.part.now in (front ds c.args.self.token c.args.n c.args.self.some c.args.self.first c.requires.0 c.requires.1).within
 
 pub returns-in_default : goal.returns-in_default
 returns-in_default c = let ds = dwords_of c.args.self.part.now in operands_lost ds c.args.self.token c.args.n c.args.self.some c.args.self.first c.requires.0 c.requires.1 c.in_default.ensures

@@ -8,22 +8,22 @@ use Rattle.operand.proofs.Fronts.{shut, leaf_is, tree_is, front_opened, front_is
 use Rattle.operand.proofs.Seen.{operand_seen}
 use Rattle.operand.proofs.Indices.{behind, unknown, short, inner, outer, goes, next_lost, index_seen, goes_on, ended}
 use Prim.Native.Nat.{◌+◌, ◌-◌}
-use Rattle.operand.proofs.+deep_index_tree.Goals as goal
+use Rattle.operand.proofs.+measure_index_tree.Goals as goal
 
-pub deep-returns-in_err-front : goal.deep-returns-in_err-front
-deep-returns-in_err-front t c = let a = c.args in c.from_residual.ensures ∙ sym (ap measured (shut a.left (dwords_of a.part.now) a.at c.in_err-front.ensures.told))
+pub measure-returns-in_err-front : goal.measure-returns-in_err-front
+measure-returns-in_err-front t c = let a = c.args in c.from_residual.ensures ∙ sym (ap measured (shut a.left (dwords_of a.part.now) a.at c.in_err-front.ensures.told))
 
-pub deep-returns-then-immediate : goal.deep-returns-then-immediate
-deep-returns-then-immediate t c = let f = c.in_ok-front in front_is c.args.left f.front f.ensures.told f.ensures.placed (leaf_is (front_opened c.args.left f.front f.ensures.told f.ensures.placed) _ c.immediate.ensures c.if-immediate.true c.leaf.ensures)
+pub measure-returns-then-immediate : goal.measure-returns-then-immediate
+measure-returns-then-immediate t c = let f = c.in_ok-front in front_is c.args.left f.front f.ensures.told f.ensures.placed (leaf_is (front_opened c.args.left f.front f.ensures.told f.ensures.placed) _ c.immediate.ensures c.if-immediate.true c.leaf.ensures)
 
-pub deep-returns-then-front-eq0 : goal.deep-returns-then-front-eq0
-deep-returns-then-front-eq0 t c = let f = c.in_ok-front in front_is c.args.left f.front f.ensures.told f.ensures.placed (tree_is (front_opened c.args.left f.front f.ensures.told f.ensures.placed) _ c.immediate.ensures c.if-immediate.false (c.flat.ensures (operand (c.args.left - 1))))
+pub measure-returns-then-front-eq0 : goal.measure-returns-then-front-eq0
+measure-returns-then-front-eq0 t c = let f = c.in_ok-front in front_is c.args.left f.front f.ensures.told f.ensures.placed (tree_is (front_opened c.args.left f.front f.ensures.told f.ensures.placed) _ c.immediate.ensures c.if-immediate.false (c.flat.ensures (operand (c.args.left - 1))))
 
-pub deep-tree-requires : goal.deep-tree-requires
-deep-tree-requires t c = let f = c.in_ok-front in (omega arith, (front_opened c.args.left f.front f.ensures.told f.ensures.placed).deep)
+pub measure-tree-requires : goal.measure-tree-requires
+measure-tree-requires t c = let f = c.in_ok-front in (omega arith, (front_opened c.args.left f.front f.ensures.told f.ensures.placed).deep)
 
-pub deep-returns : goal.deep-returns
-deep-returns t c = let f = c.in_ok-front in front_is c.args.left f.front f.ensures.told f.ensures.placed (tree_is (front_opened c.args.left f.front f.ensures.told f.ensures.placed) _ c.immediate.ensures c.if-immediate.false c.tree.ensures)
+pub measure-returns : goal.measure-returns
+measure-returns t c = let f = c.in_ok-front in front_is c.args.left f.front f.ensures.told f.ensures.placed (tree_is (front_opened c.args.left f.front f.ensures.told f.ensures.placed) _ c.immediate.ensures c.if-immediate.false c.tree.ensures)
 
 pub index-returns-then-not-known : goal.index-returns-then-not-known
 index-returns-then-not-known t c = let a = c.args in unknown (operand (a.left - 1)) (dwords_of a.part.now) a.r a.at _ c.known.ensures c.if-not-known.true

@@ -3,10 +3,10 @@ use Rattle.format.specs.Operands.{operand, read_indices}
 use Rattle.operand.specs.Measures.{measured, extensions, behind}
 use Rattle.operand.proofs.Indices.{Going}
 use Prim.Native.Nat.{◌+◌, ◌-◌, ◌*◌}
-use Rattle.operand.proofs.+deep_index_tree.Given as goal
+use Rattle.operand.proofs.+measure_index_tree.Given as goal
 
-abbrev pub decreases-deep : goal.decreases-deep
-decreases-deep l = l.left * 3 + 2
+abbrev pub decreases-measure : goal.decreases-measure
+decreases-measure l = l.left * 3 + 2
 
 abbrev pub decreases-index : goal.decreases-index
 decreases-index l = l.left * 3
