@@ -216,11 +216,3 @@ module _ (c : ℕ) (m : Bool) (ds : List ℕ) (t : ℕ) (et : t ≡ get_or ds 0 
           words_put = u.words_put ∙ (λ z. sym (unread_words ds) z ++ drop (length (sym (unread_words ds) z)) ws);
         };
       })
-
--- places as the code widens them, and one reading of items in place of another
-pub room_as : {g h : Got (List Tree)} {n at ops ws row word row' word' : ℕ} → g ≡ h → row' ≡ row → word' ≡ word → BodyRoom g n at ops ws row word → BodyRoom h n at ops ws row' word'
-room_as {n = n} {at = at} {ops = ops} {ws = ws} {row = row} {word = word} z e f q = rw (e, f) (subst (λ (k : Got (List Tree)). BodyRoom k n at ops ws row word) z q)
-
-pub body_as : {g h : Got (List Tree)} {row word row' word' : ℕ} {ops ws ops' ws' : List ℕ} {a : Sizes} → g ≡ h → row' ≡ row → word' ≡ word → WroteBody h row' word' ops ws a ops' ws' → WroteBody g row word ops ws a ops' ws'
-body_as {row = row} {word = word} {row' = row'} {word' = word'} {ops = ops} {ws = ws} {ops' = ops'} {ws' = ws'} {a = a} y e f w ps z =
-    subst (λ (r : ℕ). Put ps r word ops ws a.rows a.words ops' ws') e (subst (λ (k : ℕ). Put ps row' k ops ws a.rows a.words ops' ws') f (w ps (sym y ∙ z)))

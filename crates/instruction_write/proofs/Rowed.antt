@@ -49,21 +49,3 @@ row_is x t ds end to at n r k w m b l e₁ e₂ e₃ f et en ef eb el q₁ q₂ 
     let z₂ : e₂ ≡ of_type 2 (extensions x (slice 1 end ds)) = q₂ ∙ ap (of_type 2) c in
     let z₃ : e₃ ≡ of_type 3 (extensions x (slice 1 end ds)) = q₃ ∙ ap (of_type 3) c in
     λ i. at ∷ en i ∷ code t ∷ x.kind ∷ (ef i).saturate ∷ (ef i).test ∷ (ef i).precise ∷ (ef i).field ∷ z₀ i ∷ bits 9 20 (z₁ i) ∷ (z₂ i % 2 ^ 31) ∷ (z₃ i % 2 ^ 31) ∷ r ∷ k ∷ w ∷ m ∷ []
-
-pub unread_put : (ds : List ℕ) (c at row word n : ℕ) (a : Sizes) (is ws is' ws' R : List ℕ) → n ≡ length ds → a.rows ≡ 0 → a.words ≡ n → R ≡ plain_row n c at row word
-    → is' ≡ R ++ drop 16 is → ws' ≡ take n (drop 0 ds) ++ drop n ws → Unread ds c at row word is ws a is' ws'
-unread_put ds c at row word n a is ws is' ws' R en er ew eR ei eW =
-    let z : take n ds ≡ ds = take_all n ds (omega arith) in
-    record {
-      rows_are = er;
-      words_are = ew ∙ en;
-      row_put = ei ∙ ap (λ (l : List ℕ). l ++ drop 16 is) (eR ∙ ap (λ (k : ℕ). plain_row k c at row word) en);
-      words_put = eW ∙ (λ i. z i ++ drop (en i) ws);
-    }
-
-pub small_long : (t : ℕ) {l : ℕ} → l ≡ long_bit t → l ≤ 8
-small_long t {l} e = go (long t) e
-  where
-    go : (b : Bool) → l ≡ cond b 8 0 → l ≤ 8
-    go true z = omega arith
-    go false z = omega arith

@@ -39,9 +39,6 @@ pub record Summed (ds : List ℕ) (from to at sum : ℕ) : Type 0 where
   pub below : sum < 2 ^ last
   pub same : type_bits (slice from to ds) ≡ sum + type_bits (slice at to ds)
 
-pub sum_begin : (ds : List ℕ) (from to : ℕ) → from ≤ to → to ≤ length ds → rising 0 (slice from to ds) ≡ true → Summed ds from to from 0
-sum_begin ds from to a b c = record { last = 0; within = a; ends = b; rises = c; low = omega arith; below = omega arith; same = omega arith }
-
 and_left : (a b : Bool) → (a && b) ≡ true → a ≡ true
 and_left true b e = refl
 and_left false b e = e

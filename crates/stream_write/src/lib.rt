@@ -1,11 +1,12 @@
 // Writes a stream that was accepted into three lent pools, one instruction after the other.
 #![tactic(auto)]
 
-ghost use Rattle.std.specs.Prelude.{◌≡◌, ◌*◌, ◌<◌, ◌^◌, length};
+ghost use Rattle.std.specs.Prelude.{◌≡◌, ◌<◌, length};
 ghost use Rattle.format.specs.Dwords.{dwords_of};
 ghost use Rattle.stream_write.specs.Writing as d;
 
 use header::instruction_length;
+use instruction_write::Place;
 use tokens::dwords;
 
 // How far writing has come: dwords of the chunk, and rows and words written.
@@ -15,19 +16,6 @@ pub struct Mark {
     pub instructions: usize,
     pub operands: usize,
     pub words: usize,
-}
-
-fn narrow(x: usize) -> u32
-    requires { x < 2 ^ 32 }
-    ensures { result ≡ x }
-{
-    x as u32
-}
-
-fn wide(x: u32) -> usize
-    ensures { result ≡ x }
-{
-    x as usize
 }
 
 // Writes the next instruction, into what the ones before it left of each pool.
@@ -43,22 +31,20 @@ fn write_next(
     requires { (s.at < length (dwords_of chunk.now)) × d.Writing ceiling model51 (dwords_of chunk.now) s (length instructions.old) (length operands.old) (length words.old) }
     ensures { (s.at < result.at) × d.Writing ceiling model51 (dwords_of chunk.now) result (length instructions.new) (length operands.new) (length words.new) × d.Toward ceiling model51 (dwords_of chunk.now) s instructions.old operands.old words.old result instructions.new operands.new words.new }
 {
-    let end = s.at + wide(instruction_length(chunk, s.at));
-    let a = s.at * 4;
-    let b = end * 4;
-    let i = s.instructions * 16;
-    let o = s.operands * 16;
-    let w = s.words;
+    let end = s.at + instruction_length(chunk, s.at) as usize;
+    let place = Place {
+        offset: (s.at * 4) as u32,
+        row: s.operands as u32,
+        word: s.words as u32,
+    };
     let x = instruction_write::write(
-        &chunk[a..b],
+        &chunk[s.at * 4..end * 4],
         ceiling,
         model51,
-        narrow(a),
-        narrow(s.operands),
-        narrow(s.words),
-        &mut instructions[i..],
-        &mut operands[o..],
-        &mut words[w..],
+        place,
+        &mut instructions[s.instructions * 16..],
+        &mut operands[s.operands * 16..],
+        &mut words[s.words..],
     );
     Mark {
         at: end,
