@@ -66,7 +66,9 @@ pub fn put_row(pool: &mut [u32], row: [u32; 16])
     requires { 16 ≤ length pool.old }
     ensures { pool.new ≡ row ++ drop 16 pool.old }
 {
-    pool[..16].copy_from_slice(&row);
+    for (i, x) in row.iter().enumerate() {
+        pool[i] = *x;
+    }
 }
 
 // Copies n dwords of a part, from a place on, to the front of a pool.
@@ -201,6 +203,33 @@ impl<'a> Front<'a> {
             words: n,
             dwords,
         }
+    }
+}
+
+// Writes an operand whose dword is exact, with one index of one dword and no extensions.
+pub fn single(
+    part: &[u8],
+    at: usize,
+    token: u32,
+    ops: &mut [u32],
+    words: &mut [u32],
+    word: usize,
+) -> Sums
+    requires { (op.dimension token ≡ 1) × (op.exact_dword token ≡ true) × w.Lone (length (dwords_of part.now)) at (at + 1) (op.dimension token) (length ops.old) (length words.old) word }
+    ensures { w.Stored (dwords_of part.now) at (at + 1) (op.dimension token) (w.flat_row token 0 word (at + 1 - at + op.dimension token)) ops.old words.old result ops.new words.new }
+{
+    words[0] = tokens::dword(part, at + 1);
+    let row = Row {
+        selection: token / 16 % 256,
+        dimension: 1,
+        w0: word as u32,
+        ..lone_row(token, 0, 2)
+    };
+    put_row(ops, row.words());
+    Sums {
+        rows: 1,
+        words: 1,
+        dwords: 2,
     }
 }
 

@@ -1,21 +1,22 @@
 -- How a reading that was accepted is taken apart.
-use Prim.Native.Nat.{ℕ, zero, suc, ◌+◌, ◌-◌, ◌<◌, ◌≤◌}
+use Prim.Native.Nat.{ℕ, zero, suc, ◌+◌, ◌-◌, ◌^◌, ◌<◌, ◌≤◌}
 use mathlib.Core.Path.{◌≡◌, refl, sym, ◌∙◌, ap}
 use mathlib.Core.Bool.{Bool, true, false}
 use mathlib.Core.List.{List, [], ◌++◌}
 use Rattle.std.specs.Prelude.{Option, Some, None, IsSome}
 use native.Mathlib.Omega.{arith}
 use lib.ListN.{length, get_or, take, drop}
-use lib.Seq.{slice}
+use lib.Seq.{slice, slice_empty}
 use lib.Dec.{ltb, eqb}
 use borrow.Author.Tests.{ltb-true, ltb-false, eqb-true}
 use Rattle.format.specs.Dwords.{follows, Got, malformed, got, Reader, then, give, chain}
-use Rattle.format.specs.Operands.{Tree, none, plain, node, immediates, dimension, repr, own, nests, known, read_index, read_immediates, read_indices, operand, dwords, modifiers}
+use Rattle.format.specs.Operands.{Tree, none, plain, node, immediate, immediates, dimension, repr, own, nests, known, read_index, read_immediates, read_indices, operand, dwords, modifiers}
 use Rattle.format.proofs.Dwords.{met, Makes, impossible}
 use Rattle.tokens.specs.Chains.{ends}
+use Rattle.tokens.proofs.Chains.{not_begun}
 use Rattle.tokens.proofs.Places.{some_whole, some_short, left_at, read_within, Passed, passed, ran_off}
 use Rattle.operand.specs.Measures.{Flat}
-use Rattle.operand.proofs.Fronts.{body, operand_some, operand_end}
+use Rattle.operand.proofs.Fronts.{body, operand_some, operand_end, low_ends}
 use Rattle.operand.proofs.FlatTrees.{flat_tree, flat_short, flat_read}
 use Rattle.operand.proofs.Indices.{makes_index}
 use Rattle.operand_write.specs.Writes.{Front}
@@ -67,6 +68,11 @@ module _ (left : ℕ) (ds : List ℕ) (at : ℕ) {tree : Tree} {r : List ℕ} (e
           front = record { from = omega (arith, to.from); within = to.within; modified = ex };
           is = begun left ds at e t et m em ∙ rw to.is;
         }
+
+  -- one with a low dword has no extensions
+  pub low_entered : t < 2 ^ 22 → Entered left ds at t (at + 1) 0
+  unfolding modifiers
+  low_entered l = entered false (sym (low_ends t l)) (at + 1) (not_begun ds (at + 1) refl) 0 (sym (ap modifiers (slice_empty (at + 1) ds)))
 
 -- an operand of immediates
 pub record Leaf (ds : List ℕ) (t : ℕ) (e : List ℕ) (b : ℕ) (tree : Tree) : Type 0 where
@@ -180,3 +186,12 @@ node_of k ds t e b tree r h q = first (read_index (operand k) (repr 0 t) (drop b
     first : (g : Got Tree) → read_index (operand k) (repr 0 t) (drop b ds) ≡ g → Node k ds t e b tree
     first malformed q₀ = never (rw q₀ at q)
     first (got x u) q₀ = second x u q₀ (read_index (operand k) (repr 1 t) u) refl
+
+-- with an index, an operand that was read has no immediates
+pub not_immediate : {left : ℕ} {ds : List ℕ} {at t b x : ℕ} → Entered left ds at t b x → {tree : Tree} {r : List ℕ} → operand left (drop at ds) ≡ got tree r → dimension t ≡ 1 → immediate t ≡ false
+unfolding read_immediates
+not_immediate {left} {ds} {at} {t} {b} o e d = go (immediate t) refl
+  where
+    go : (m : Bool) → immediate t ≡ m → m ≡ false
+    go false q = refl
+    go true q = let z : operand left (drop at ds) ≡ malformed = o.is ∙ rw (q, d) in never (sym z ∙ e)

@@ -1,28 +1,29 @@
 -- Laws of what is written of an operand.
-use Prim.Native.Nat.{ℕ, ◌+◌, ◌-◌, ◌*◌, ◌^◌, ◌<◌, ◌≤◌}
+use Prim.Native.Nat.{ℕ, ◌+◌, ◌-◌, ◌*◌, ◌/◌, ◌^◌, ◌<◌, ◌≤◌}
 use mathlib.Core.Path.{◌≡◌, refl, sym, ◌∙◌, ap, subst}
-use mathlib.Core.Bool.{Bool, true, false, not}
+use mathlib.Core.Bool.{Bool, true, false, not, ◌&&◌}
 use mathlib.Core.List.{List, [], ◌∷◌, ◌++◌, append_assoc, append-nil}
 use native.Mathlib.Omega.{arith}
-use lib.ListN.{length, take, drop, length-append}
+use lib.ListN.{length, take, drop, length-append, get_or}
 use lib.Seq.{slice, length-slice}
-use lib.Dec.{ltb}
+use lib.Dec.{eqb, ltb}
 use borrow.Rule.Slice.PartMut.{put_mid}
-use borrow.Author.Tests.{ltb-true, ltb-false, not-true, not-false}
+use borrow.Author.Tests.{eqb-true, ltb-true, ltb-false, not-true, not-false}
 use Rattle.format.specs.Dwords.{Got, got}
-use Rattle.format.specs.Operands.{Tree, none, plain, node, type_of, form, selection, immediate, immediates, dimension, reprs, repr, own, nests, read_index, read_immediates, read_indices, operand, dwords, modifiers}
+use Rattle.format.specs.Operands.{Tree, none, plain, node, type_of, form, selection, immediate, immediates, dimension, reprs, repr, own, nests, read_index, read_immediates, read_indices, operand, dwords, modifiers, exact_dword}
 use Rattle.format.specs.Rows.{placed, word_place, child_row, tree_rows, tree_words, tree_table, operand_row}
-use Rattle.format.proofs.Dwords.{impossible}
+use Rattle.format.proofs.Dwords.{impossible, both}
 use Rattle.format.proofs.Rows.{table_length}
 use Rattle.tokens.proofs.Places.{some_length}
 use Rattle.operand.specs.Measures.{Flat}
+use Rattle.operand.proofs.Fronts.{low_flat}
 use Rattle.operand.proofs.FlatTrees.{flat_tree, flat_words, flat_dwords, past_dim, in_dim, flat_reprs}
 use Rattle.operand.proofs.Seen.{Seen}
 use Rattle.operand_rows.specs.Writes.{row_for, leaf_row, flat_row, Fits, Lone, Stored, Over, OwnRoom, Owned}
 use Rattle.operand_rows.specs.declared.Sums.{Sums}
 use Rattle.operand_rows.proofs.Lists.{lent_length, back, over_none, over_more, over_front, row_before}
 use Rattle.operand_write.specs.Writes.{Front, Room, Put, Wrote, Ready, Next, WroteNext}
-use Rattle.operand_write.proofs.Readings.{Entered, leaf_of, flat_of_lem, Index, index_of, Node, node_of}
+use Rattle.operand_write.proofs.Readings.{Entered, low_entered, not_immediate, leaf_of, flat_of_lem, Index, index_of, Node, node_of}
 
 -- one reading in place of another that is the same
 pub room_at : {g h : Got Tree} {ops ws row word : ℕ} → g ≡ h → Room g ops ws row word → Room h ops ws row word
@@ -202,6 +203,32 @@ module _ {left : ℕ} {ds : List ℕ} {at t b x : ℕ} (o : Entered left ds at t
 
       pub flat_wrote : {a : Sums} {L W L' W' : List ℕ} → Stored ds at b (dimension t) (flat_row t x word (b - at + dimension t)) L W a L' W' → Wrote (operand left (drop at ds)) row word L W a L' W'
       flat_wrote s = alone_wrote o.front q flat_alone s
+
+-- an operand whose dword t is short: exact, with one index of one dword and no extensions
+module _ (left : ℕ) (ds : List ℕ) (at : ℕ) {ops ws row word : ℕ} (q : Room (operand left (drop at ds)) ops ws row word) (t : ℕ) (et : t ≡ get_or ds at 0) {b : Bool} (eb : b ≡ (eqb (t / 0x100000) 1 && exact_dword t)) (h : b ≡ true) where
+  said : (eqb (t / 0x100000) 1 ≡ true) × (exact_dword t ≡ true)
+  said = both (eqb (t / 0x100000) 1) (exact_dword t) (sym eb ∙ h)
+
+  top : t / 0x100000 ≡ 1
+  top = eqb-true (t / 0x100000) 1 said.0
+
+  low : t < 2 ^ 22
+  low = omega (arith, top)
+
+  one_index : dimension t ≡ 1
+  one_index = omega (arith, top)
+
+  front : Entered left ds at t (at + 1) 0
+  front = low_entered left ds at q.is t et low
+
+  unimmediate : false ≡ immediate t
+  unimmediate = sym (not_immediate front q.is one_index)
+
+  pub short_room : (dimension t ≡ 1) × (exact_dword t ≡ true) × Lone (length ds) at (at + 1) (dimension t) ops ws word
+  short_room = (one_index, said.1, flat_room front q false unimmediate refl (low_flat t low))
+
+  pub short_wrote : {a : Sums} {L W L' W' : List ℕ} → Stored ds at (at + 1) (dimension t) (flat_row t 0 word (at + 1 - at + dimension t)) L W a L' W' → Wrote (operand left (drop at ds)) row word L W a L' W'
+  short_wrote s = flat_wrote front q false unimmediate refl (low_flat t low) s
 
 -- an index
 module _ (k : ℕ) (ds : List ℕ) (r at : ℕ) {ops ws row word : ℕ} {b : Sums} (q : Ready (read_index (operand k) r (drop (at + b.dwords) ds)) (length ds) at ops ws row word b) where

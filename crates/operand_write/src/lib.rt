@@ -7,7 +7,7 @@ ghost use Rattle.format.specs.Dwords.{dwords_of};
 ghost use Rattle.format.specs.Operands as op;
 ghost use Rattle.operand_write.specs.Writes as w;
 
-use operand_rows::{Front, Sums, make_row, own_words, put_row};
+use operand_rows::{Front, Sums, make_row, own_words, put_row, single};
 
 // Writes an index of a representation behind what is counted.
 #[cycle(index_tree_write)]
@@ -84,8 +84,10 @@ fn tree(
     sums
 }
 
-// Writes an operand that was measured, at a place, with so many depths left.
+// Writes an operand that was measured, at a place, with so many depths left. Most are exact, have neither extensions nor representations,
+// and one index: they go a short way.
 #[cycle(index_tree_write)]
+#[inline(always)]
 pub fn write(
     part: &[u8],
     at: usize,
@@ -99,6 +101,9 @@ pub fn write(
     ensures { w.Wrote (op.operand left (drop at (dwords_of part.now))) row word ops.old words.old result ops.new words.new }
 {
     let token = tokens::dword(part, at);
+    if tokens::short(token) {
+        return single(part, at, token, ops, words, word);
+    }
     let body = tokens::chain(part, at + 1, tokens::follows(token)).unwrap();
     let front = Front {
         part,

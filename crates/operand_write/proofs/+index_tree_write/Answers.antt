@@ -4,7 +4,7 @@ use lib.Seq.{slice, length-slice}
 use Rattle.format.specs.Dwords.{dwords_of}
 use Rattle.format.proofs.Dwords.{length_dwords}
 use Rattle.operand_write.proofs.Readings.{inside, chained, to, entered}
-use Rattle.operand_write.proofs.Writing.{leaf_room, leaf_wrote, flat_room, flat_wrote, tree_room, tree_wrote, counted, own_room, child_room, child_put, flat_put, nested_put, numbers, ready₀, ready₁, ready₂, node_sum, node_fits, node_put}
+use Rattle.operand_write.proofs.Writing.{short_room, short_wrote, leaf_room, leaf_wrote, flat_room, flat_wrote, tree_room, tree_wrote, counted, own_room, child_room, child_put, flat_put, nested_put, numbers, ready₀, ready₁, ready₂, node_sum, node_fits, node_put}
 use Prim.Native.Nat.{◌+◌, ◌-◌, ◌*◌}
 use Rattle.std.proofs.Common.{ap, not}
 use Rattle.operand_write.proofs.+index_tree_write.Goals as goal
@@ -95,3 +95,9 @@ tree-put_row-requires t c = let f = c.args.front.now in omega (arith, (numbers (
 
 pub tree-returns : goal.tree-returns
 tree-returns t c = let f = c.args.front.now in node_put (c.args.left - 1) (dwords_of f.part.now) f.token (slice (f.at + 1) f.body (dwords_of f.part.now)) f.body c.requires.2 c.requires.1.within _ refl refl refl _ c.repr-r0.ensures c.index-a.ensures _ c.repr-r1.ensures c.index-b.ensures _ c.repr-r2.ensures c.index-c.ensures f.at c.requires.1.from (length-slice (f.at + 1) f.body (dwords_of f.part.now) c.requires.1.within) _ refl refl refl refl refl _ c.requires.1.modified _ _ (c.words.ensures ∙ c.make_row-made.ensures) c.put_row.ensures
+
+pub write-single-requires : goal.write-single-requires
+write-single-requires t c = let a = c.args in short_room a.left (dwords_of a.part.now) a.at c.requires _ c.dword-token.ensures c.short.ensures c.if-short.true
+
+pub write-returns-then-short : goal.write-returns-then-short
+write-returns-then-short t c = let a = c.args in short_wrote a.left (dwords_of a.part.now) a.at c.requires _ c.dword-token.ensures c.short.ensures c.if-short.true c.single.ensures
