@@ -6,7 +6,7 @@ use mathlib.Core.List.{List, [], ◌∷◌}
 use native.Mathlib.Omega.{arith}
 use lib.Dec.{eqb, ltb}
 use lib.ListN.{length, get_or, drop}
-use lib.Seq.{slice}
+use lib.Seq.{slice, slice-cons, slice_empty}
 use borrow.Author.Tests.{ltb-true, ltb-false, eqb-true, eq-eqb, not-true}
 use Rattle.format.specs.Dwords.{Got, malformed, got, dword, chain, follows, Reader, some}
 use Rattle.format.specs.Operands as op
@@ -16,7 +16,7 @@ use Rattle.format.proofs.Dwords.{impossible, both, All, unmet, met, all_then, al
 use Rattle.tokens.specs.Usuals.{usual_length}
 use Rattle.tokens.specs.Chains.{ends}
 use Rattle.tokens.proofs.Usuals.{immediates_few}
-use Rattle.tokens.proofs.Chains.{begun, ended, one_extension}
+use Rattle.tokens.proofs.Chains.{begun, ended}
 use Rattle.tokens.proofs.Places.{passed as chain_passed}
 use Rattle.std.specs.Prelude.{Option, Some, None}
 use Rattle.operand.specs.Measures.{read, measured, Flat}
@@ -112,9 +112,10 @@ module _ (ds : List ℕ) (at : ℕ) (l : at + 1 < length ds) (t : ℕ) (et : t �
   ext : Opened 64 ds at t (at + 2) true
   ext =
       let two : at + 1 + 1 ≡ at + 2 = omega arith in
+      let next : suc (at + 1) ≡ at + 2 = omega arith in
       let g : Some (at + 2) ≡ ends (at + 1) (chain true (drop (at + 1) ds)) = rw two at (ended (begun ds (at + 1) refl) l ex (sym once.last) refl) in
       let w = chain_passed true ds (at + 1) (at + 2) (omega arith) g in
-      let y : true ≡ op.exact_extension (slice (at + 1) (at + 2) ds) = one_extension ds (at + 1) (at + 2) (omega arith) w.within (omega arith) x true ex (sym once.good) in
+      let y : true ≡ op.exact_extension (slice (at + 1) (at + 2) ds) = rw (slice-cons (at + 1) (at + 2) ds 0 (omega arith) w.within, next, slice_empty (at + 2) ds, ← ex) (sym once.good) in
       opened 64 ds at (t, at + 2, true) (front_read 64 ds at (λ z. omega arith) (omega arith) t et true followed (at + 2) w true true true (sym once.sharp) y refl)
 
   flat : Flat t
