@@ -8,7 +8,6 @@ use native.Mathlib.Omega.{arith}
 use lib.ListN.{length}
 use lib.Dec.{eqb, ltb}
 use borrow.Author.Tests.{eqb-true, eq-eqb, ne_eqb, ltb-true}
-use Rattle.std.specs.Prelude.{Option, Some}
 use Rattle.format.specs.Dwords.{bits, follows}
 use Rattle.format.specs.Framing.{code, long, sized}
 use Rattle.format.specs.Counts.{within, numbers, line_of, operand_count, token_with}
@@ -17,7 +16,6 @@ use Rattle.format.specs.Instructions.{fields_of}
 use Rattle.format.proofs.Dwords.{both, bits_above}
 use Rattle.format.proofs.Each.{member}
 use Rattle.layouts.specs.Shapes.{kind_number, meant, field_of}
-use Rattle.layouts.specs.Table.{shape_of, Declares}
 use Rattle.layouts.specs.declared.Shape.{Shape}
 use Rattle.instruction_fields.specs.Fields.{headed, bare_token, Declared}
 use Rattle.instruction_fields.proofs.Tokens.{head_none}
@@ -92,7 +90,3 @@ module _ (t : ℕ) (x : Shape) (l : Declared (code t) x) where
 
     pub begins : (ds : List ℕ) → 0 < length ds → Headed (meant x) t ds 1
     begins ds h = headed_at (meant x) t ds h (head_none (meant x) t ds false (sym unsized) refl (ap (λ k. ltb k 3) is_4)) refl
-
--- ---- the shape that a row tells
-pub declared_by : (c d : ℕ) (x : Shape) {row : Option ℕ} → Declares c row → row ≡ Some d → x ≡ shape_of d → Declared c x
-declared_by c d x h n e = rw e (record { laid = h.laid d n; kind = refl; operands = omega arith; ends = refl })

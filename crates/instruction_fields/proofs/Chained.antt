@@ -53,7 +53,3 @@ risen {ds} {from} {to} {at} {last} q h =
 pub other_type : (e : ℕ) → e < 2 ^ 32 → (extension_type e ≡ 1 → ⊥) → true ≡ eqb e (lower_bits e + bits 31 31 e * 2 ^ 31)
 unfolding lower_bits
 other_type e h n = rw (ne_eqb (extension_type e) 1 n) (sym (eq-eqb e (e % 2 ^ 31 + bits 31 31 e * 2 ^ 31) (omega arith)))
-
-pub first_type : (e : ℕ) → extension_type e ≡ 1 → eqb e (1 + bits 9 20 e * 2 ^ 9 + bits 31 31 e * 2 ^ 31) ≡ eqb e (lower_bits e + bits 31 31 e * 2 ^ 31)
-unfolding lower_bits
-first_type e z = rw z

@@ -6,7 +6,7 @@ use mathlib.Core.Bool.{Bool, true, false, cond, not, ◌&&◌, ◌||◌}
 use mathlib.Core.Option.{none, some}
 use native.Mathlib.Nat.{mod-add-div, mod-one, mul-one}
 use native.Mathlib.Omega.{arith}
-use lib.ListN.{length, get_or, drop, replicate}
+use lib.ListN.{replicate}
 use lib.Seq.{slice, slice_empty}
 use lib.Dec.{eqb}
 use borrow.Author.Tests.{eqb-true, eq-eqb}
@@ -22,9 +22,6 @@ use Rattle.layouts.specs.Table.{plain_shape, width_of}
 use Rattle.layouts.proofs.Others.{counts}
 use Rattle.layouts.proofs.Fields.{unbounded, value}
 use Rattle.instruction_fields.specs.Fields.{headed, clear_token, plain_token}
-use Rattle.tokens.specs.Chains.{ends}
-use Rattle.std.specs.Prelude.{Option, Some}
-use Rattle.instruction_fields.proofs.Heads.{Headed, headed_at}
 
 module _ (c n : ℕ) (h : operand_count c ≡ some n) where
   -- its layout
@@ -156,23 +153,3 @@ module _ (t n : ℕ) (h : operand_count (code t) ≡ some n) where
         let z : slice 1 end ds ≡ [] = rw (e unfollowed) (slice_empty 1 ds) in
         let b : true ≡ in_bounds x.field t = unbounded (plain_shape Counted (width_of (code t)) n true) t (counts (code t) n h).sound refl in
         rw (laid (code t) n h, z, plain_sum, ← b)
-
--- ---- the code's way to the operands
-module _ (ds : List ℕ) (t n : ℕ) (some-there : 0 < length ds) (et : t ≡ get_or ds 0 0) (h : operand_count (code t) ≡ some n) {f : Bool} (ef : f ≡ follows t) {a : Option ℕ} (ea : a ≡ ends 1 (chain f (drop 1 ds))) where
-  abbrev y : Layout
-  y = layout (code t)
-
-  told_head : a ≡ ends 1 (read_head y t (drop 1 ds))
-  told_head = ea ∙ ap (λ (g : Bool). ends 1 (chain g (drop 1 ds))) ef ∙ ap (ends 1) (sym (chain_head t n h (drop 1 ds)))
-
-  module _ {b : ℕ} (e : a ≡ Some b) where
-    pub begins : Headed y t ds b
-    begins = headed_at y t ds some-there told_head e
-
-    pub no_chain : follows t ≡ false → b ≡ 1
-    unfolding chain
-    no_chain z = go (drop 1 ds) (sym e ∙ ea ∙ ap (λ (g : Bool). ends 1 (chain g (drop 1 ds))) (ef ∙ z))
-      where
-        go : (l : List ℕ) → Some b ≡ ends 1 (chain false l) → b ≡ 1
-        go [] q = cc
-        go (w ∷ l) q = cc

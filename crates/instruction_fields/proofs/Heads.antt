@@ -1,5 +1,5 @@
 -- What stands between a token and an instruction's parts, and whether it is exact; and how many items a shape has.
-use Prim.Native.Nat.{ℕ, suc, ◌+◌, ◌-◌, ◌%◌, ◌≤◌, ◌<◌}
+use Prim.Native.Nat.{ℕ, suc, ◌+◌, ◌-◌, ◌≤◌, ◌<◌}
 use mathlib.Core.Path.{◌≡◌, refl, sym, ap, ◌∙◌}
 use mathlib.Core.List.{List, [], ◌∷◌, ◌++◌}
 use mathlib.Core.Bool.{Bool, true, false, cond, not}
@@ -8,12 +8,12 @@ use lib.ListN.{length, take, drop, length-drop, length-append, length-replicate}
 use lib.Seq.{drop-drop, take_at, drop_at, slice}
 use lib.Dec.{ltb, eqb}
 use native.Mathlib.Omega.{arith}
-use borrow.Author.Tests.{lt-ltb, le-ltb, eq-eqb, ne_eqb}
+use borrow.Author.Tests.{lt-ltb, le-ltb, ne_eqb}
 use Rattle.layouts.specs.Shapes.{listed, tailed, items_of}
 use Rattle.layouts.specs.declared.Shape.{Shape}
-use Rattle.format.specs.Dwords.{bits, Got, malformed, got}
+use Rattle.format.specs.Dwords.{Got, malformed, got}
 use Rattle.format.specs.Framing.{code}
-use Rattle.format.specs.Counts.{Fields, token_with, rising}
+use Rattle.format.specs.Counts.{token_with, rising}
 use Rattle.format.specs.Declarations.{list, Layout, in_bounds}
 use Rattle.format.specs.Instructions.{read_head, fields_of, extensions}
 use Rattle.format.proofs.Dwords.{impossible, All, unmet, met}
@@ -63,27 +63,9 @@ module _ (kind t n : ℕ) where
   pub another_kind : (kind ≡ 5 → ⊥) → true ≡ classed kind t n
   another_kind h = rw (ne_eqb kind 5 h)
 
-  pub another_class : kind ≡ 5 → (bits 11 15 t ≡ 3 → ⊥) → true ≡ classed kind t n
-  another_class e h = rw (eq-eqb kind 5 e, ne_eqb (bits 11 15 t) 3 h)
-
-  pub class_3 : kind ≡ 5 → bits 11 15 t ≡ 3 → eqb (n % 4) 0 ≡ classed kind t n
-  class_3 e f = rw (eq-eqb kind 5 e, eq-eqb (bits 11 15 t) 3 f)
-
 module _ (x : Layout) (t : ℕ) (e : List ℕ) (n : ℕ) (b₁ : Bool) (e₁ : b₁ ≡ eqb t (token_with (code t) (fields_of x t))) where
-  pub token_wrong : b₁ ≡ false → false ≡ headed x t e n
-  unfolding headed
-  token_wrong z = rw (← e₁, z)
-
   module _ (z₁ : b₁ ≡ true) (b₂ : Bool) (e₂ : b₂ ≡ rising 0 (cond (ltb x.kind 3) e [])) where
-    pub chain_wrong : b₂ ≡ false → false ≡ headed x t e n
-    unfolding headed extensions
-    chain_wrong z = rw (← e₁, z₁, ← e₂, z)
-
     module _ (z₂ : b₂ ≡ true) (b₃ : Bool) (e₃ : b₃ ≡ in_bounds x.field t) where
-      pub field_wrong : b₃ ≡ false → false ≡ headed x t e n
-      unfolding headed extensions
-      field_wrong z = rw (← e₁, z₁, ← e₂, z₂, ← e₃, z)
-
       pub class_decides : b₃ ≡ true → (b₄ : Bool) → b₄ ≡ classed x.kind t n → b₄ ≡ headed x t e n
       unfolding headed extensions
       class_decides z b₄ e₄ = rw (← e₁, z₁, ← e₂, z₂, ← e₃, z, ← e₄)
@@ -103,12 +85,6 @@ tails false = refl
 pub item_sum : (x : Shape) (l t : ℕ) → l ≡ length (listed x.list) → t ≡ length (tailed x.tail) → x.before + x.operands + x.small + x.after + x.extra + l + t ≡ length (items_of x)
 unfolding items_of
 item_sum x l t e f = rw (e, f) (simp (length-append, length-replicate) (omega arith))
-
-pub by_fields : (t : ℕ) (f g : Fields) → f ≡ g → eqb t (token_with (code t) f) ≡ eqb t (token_with (code t) g)
-by_fields t f g e = ap (λ (h : Fields). eqb t (token_with (code t) h)) e
-
-pub by_dwords : (kind t n k b : ℕ) → n ≡ k → classed kind t (n - b) ≡ classed kind t (k - b)
-by_dwords kind t n k b e = ap (λ (i : ℕ). classed kind t (i - b)) e
 
 pub chained_head : (kind : ℕ) (e : List ℕ) {b : Bool} → kind < 3 → b ≡ rising 0 e → b ≡ rising 0 (cond (ltb kind 3) e [])
 chained_head kind e h z = rw (lt-ltb kind 3 h) z

@@ -70,10 +70,6 @@ pub place_within : {items : List Item} {ds : List ℕ} {at k : ℕ} {p : Option 
 place_within {ds = ds} {k = k} (to {k = j} a b f) e = let z : j ≡ k = cc in subst (λ (n : ℕ). n ≤ length ds) z b
 place_within (out f) e = impossible (cc)
 
-pub place_above : {items : List Item} {ds : List ℕ} {at k : ℕ} {p : Option ℕ} → Passes items ds at p → p ≡ Some k → at ≤ k
-place_above {at = at} {k = k} (to {k = j} a b f) e = let z : j ≡ k = cc in subst (λ (n : ℕ). at ≤ n) z a
-place_above (out f) e = impossible (cc)
-
 module _ (m : Bool) (x : Shape) (ds : List ℕ) (at : ℕ) {p : Option ℕ} (p₁ : Passes (replicate x.small small) ds at p) where
   pub no_small_fits : p ≡ None → Ends m (rest x) ds at false
   unfolding rest

@@ -19,6 +19,7 @@ use layouts::{Kind, Shape, field_of, in_bounds};
 use tokens::{DwordList, chain, dword, dwords, follows};
 
 // Past k dwords: the place behind them, if there are so many.
+#[tactic(auto, using(crate::proofs::Passing::passes_dwords, crate::proofs::Passing::passes_off))]
 pub fn past_dwords<D: DwordList>(part: D, at: usize, k: u32) -> Option<usize>
     requires { at ≤ length (D.listed part) }
     ensures place { result ≡ dwords_on (length (D.listed part)) at k }
@@ -77,6 +78,7 @@ pub fn extra(s: Shape, model51: bool) -> u32
 }
 
 // Past the items behind the operands, to the end if there is a tail.
+#[tactic(auto, using(crate::proofs::Passing::listed_of), unfolding(crate::specs::Places::rest_on))]
 pub fn past_rest<D: DwordList>(part: D, at: usize, s: Shape, model51: bool) -> Option<usize>
     requires { (at ≤ length (D.listed part)) × Sound s }
     ensures { result ≡ rest_on model51 s (D.listed part) at }
@@ -88,6 +90,7 @@ pub fn past_rest<D: DwordList>(part: D, at: usize, s: Shape, model51: bool) -> O
 }
 
 // Whether the items behind the operands, from a place on, end with the part.
+#[tactic(auto, using(crate::proofs::Rests::rest_ends))]
 pub fn ends(part: &[u8], at: usize, s: Shape, model51: bool) -> bool
     requires { (at ≤ length (dwords_of part.now)) × Sound s }
     ensures { Ends model51 (rest s) (dwords_of part.now) at result }
@@ -96,6 +99,7 @@ pub fn ends(part: &[u8], at: usize, s: Shape, model51: bool) -> bool
 }
 
 // The place behind a token's length dword or extension chain.
+#[tactic(auto, unfolding(format::specs::Instructions::read_head, format::specs::Dwords::some, format::specs::Dwords::chain))]
 pub fn head(part: &[u8], s: Shape, t: u32) -> Option<usize>
     requires { 0 < length (dwords_of part.now) }
     ensures { result ≡ endsOf 1 (ins.read_head (meant s) t (drop 1 (dwords_of part.now))) }
@@ -124,6 +128,7 @@ pub struct Fields {
 }
 
 // Whether a code has a test bit.
+#[tactic(auto, unfolding(format::specs::Counts::within))]
 pub fn tests(code: u32) -> bool
     ensures { result ≡ ct.within code (3 ∷ 5 ∷ 8 ∷ 13 ∷ 31 ∷ 63 ∷ []) }
 {
@@ -159,6 +164,7 @@ fn length_bits(t: u32) -> u32
 const SYNC: u32 = 190;
 
 // Bit 13, for kinds 1 to 3 and not for code 190.
+#[tactic(auto, unfolding(format::specs::Instructions::fields_of))]
 fn saturate(s: Shape, t: u32) -> u32
     ensures { result ≡ (ins.fields_of (meant s) t).saturate }
 {
@@ -169,6 +175,7 @@ fn saturate(s: Shape, t: u32) -> u32
 }
 
 // Bit 31, for kinds 1 and 2 and the long form.
+#[tactic(auto, unfolding(format::specs::Instructions::fields_of))]
 fn extended(s: Shape, t: u32) -> u32
     ensures { result ≡ (ins.fields_of (meant s) t).extended }
 {
@@ -179,6 +186,7 @@ fn extended(s: Shape, t: u32) -> u32
 }
 
 // The parts of a token beside its code.
+#[tactic(auto, unfolding(format::specs::Instructions::fields_of))]
 pub fn fields_of(s: Shape, t: u32) -> Fields
     requires { Sound s }
     ensures { fields_in result ≡ ins.fields_of (meant s) t }
@@ -203,6 +211,7 @@ pub fn exact_token(t: u32, f: Fields) -> bool
 }
 
 // An extension of an instruction has the bits that its type allows.
+#[tactic(auto, using(crate::proofs::Chained::other_type), unfolding(format::specs::Counts::lower_bits))]
 fn exact_extension(e: u32) -> bool
     ensures { result ≡ eqb e (ct.lower_bits e + bits 31 31 e * 2 ^ 31) }
 {
@@ -210,6 +219,7 @@ fn exact_extension(e: u32) -> bool
 }
 
 // Whether the extensions between two places are of types 1, 2, 3, rising, and exact.
+#[tactic(auto, using(crate::proofs::Chained::begin, crate::proofs::Chained::risen))]
 pub fn rising(part: &[u8], from: usize, to: usize) -> bool
     requires { (from ≤ to) × (to ≤ length (dwords_of part.now)) }
     ensures { result ≡ ct.rising 0 (slice from to (dwords_of part.now)) }
@@ -234,6 +244,7 @@ pub fn exact_class(kind: Kind, t: u32, n: usize) -> bool
 }
 
 // How many items a shape has, those of model 5.1 among them.
+#[tactic(auto, using(crate::proofs::Heads::item_sum, crate::proofs::Heads::lists, crate::proofs::Heads::tails))]
 pub fn item_count(s: Shape) -> u32
     requires { Sound s }
     ensures { result ≡ length (items_of s) }
@@ -244,6 +255,7 @@ pub fn item_count(s: Shape) -> u32
 }
 
 // Whether the extensions of kinds 1 and 2, which stand before a place, are what they should be.
+#[tactic(auto, unfolding(format::specs::Counts::rising))]
 fn risen(part: &[u8], kind: Kind, end: usize) -> bool
     requires { (1 ≤ end) × (end ≤ length (dwords_of part.now)) }
     ensures { result ≡ ct.rising 0 (cond (ltb (kind_number kind) 3) (slice 1 end (dwords_of part.now)) []) }
@@ -252,6 +264,7 @@ fn risen(part: &[u8], kind: Kind, end: usize) -> bool
 }
 
 // Whether the dwords of an instruction are exactly those of its layout, apart from its parts.
+#[tactic(auto, unfolding(crate::specs::Fields::headed, format::specs::Instructions::extensions))]
 pub fn exact_head(part: &[u8], s: Shape, t: u32, end: usize) -> bool
     requires { (Sound s) × (1 ≤ end) × (end ≤ length (dwords_of part.now)) }
     ensures { result ≡ headed (meant s) t (slice 1 end (dwords_of part.now)) (length (dwords_of part.now) - end) }

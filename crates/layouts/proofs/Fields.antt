@@ -1,5 +1,5 @@
 -- The field of a token by shifts, and its bounded bits.
-use Prim.Native.Nat.{ℕ, ◌+◌, ◌-◌, ◌*◌, ◌/◌, ◌%◌, ◌^◌, ◌<◌, ◌≤◌}
+use Prim.Native.Nat.{ℕ, ◌+◌, ◌-◌, ◌*◌, ◌/◌, ◌%◌, ◌^◌, ◌≤◌}
 use mathlib.Core.Path.{◌≡◌, refl, ◌∙◌}
 use mathlib.Core.Bool.{Bool, true, false, ◌&&◌}
 use native.Mathlib.Nat.{mod-lt, mod-one, one-mul, mul-one, zero-mul}
@@ -14,9 +14,6 @@ use Rattle.layouts.specs.Shapes.{Sound, field_of}
 -- 1 << w
 pub shifted : (w : ℕ) → w ≤ 13 → (1 * 2 ^ w) % 4294967296 ≡ 2 ^ w
 shifted w h = shl_exact 1 w 32 (omega arith) (omega arith) ∙ one-mul (2 ^ w)
-
-pub divides : (w : ℕ) → w ≤ 13 → 0 < (1 * 2 ^ w) % 4294967296
-divides w h = rw (shifted w h) (pow_pos w)
 
 module _ (x : Shape) (t : ℕ) (h : Sound x) where
   exact : (t / 2 ^ x.first % 2 ^ x.width * 2 ^ (x.first - 11)) % 4294967296 ≡ t / 2 ^ x.first % 2 ^ x.width * 2 ^ (x.first - 11)

@@ -2,8 +2,7 @@
 use Prim.Native.Nat.{ℕ, zero, suc, ◌+◌, ◌%◌}
 use mathlib.Core.Path.{◌≡◌, refl, sym, ◌∙◌, ap}
 use mathlib.Core.Bool.{Bool, true, false, cond, ◌&&◌, ◌||◌}
-use mathlib.Core.List.{List, [], ◌∷◌, ◌++◌, map}
-use mathlib.Core.Option.{some}
+use mathlib.Core.List.{List, [], ◌∷◌, ◌++◌}
 use native.Mathlib.Nat.{add-suc, suc-add}
 use native.Mathlib.Omega.{arith}
 use mathlib.Core.Logic.{inl, inr}
@@ -11,11 +10,10 @@ use lib.Dec.{eqb, leb, ltb}
 use lib.ListN.{get_or, take, drop}
 use types.Run.{OneOf}
 use borrow.Author.Tests.{eqb-true, eqb-false, eq-eqb, ne_eqb, leb-true, leb-false, le-leb, lt-leb, lt-ltb, le-ltb}
-use Rattle.std.specs.Prelude.{Some, None}
+use Rattle.std.specs.Prelude.{None}
 use Rattle.format.specs.Counts.{numbers, within, operand_counts, line_of, operand_count}
 use Rattle.format.proofs.Dwords.{impossible}
 use Rattle.layouts.specs.Shapes.{counted}
-use Rattle.format.proofs.Each.{member}
 
 or_assoc : (a b c : Bool) → ((a || b) || c) ≡ (a || (b || c))
 or_assoc true b c = refl
@@ -154,10 +152,6 @@ no_keys (suc n) (k ∷ ks) c p q = go (eqb c k) p (λ r. no_keys n ks c r q)
     go : (b : Bool) → (b || within c (take n ks)) ≡ false → (within c (take n ks) ≡ false → within c ks ≡ false) → (b || within c ks) ≡ false
     go true p f = p
     go false p f = f p
-
--- a key among codes that all have k operands
-pub by_key : (ks : List ℕ) (c k : ℕ) → map operand_count ks ≡ map (λ x. some k) ks → OneOf ks c → Some k ≡ counted (operand_count c)
-by_key ks c k e h = sym (ap counted (member operand_count (λ x. some k) ks e c (a_key ks c h)))
 
 -- the even codes of a line, and the odd ones
 abbrev pub even : List ℕ → List ℕ

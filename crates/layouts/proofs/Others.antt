@@ -128,10 +128,3 @@ is_counted c n e = go (operand_count c) e
     go : (m : m.Option ℕ) → Some n ≡ counted m → m ≡ some n
     go none e = impossible (cc)
     go (some k) e = let q : n ≡ k = cc in ap some (sym q)
-
-pub is_uncounted : (c : ℕ) → None ≡ counted (operand_count c) → operand_count c ≡ none
-is_uncounted c e = go (operand_count c) e
-  where
-    go : (m : m.Option ℕ) → None ≡ counted m → m ≡ none
-    go none e = refl
-    go (some k) e = impossible (cc)

@@ -15,9 +15,6 @@ use Rattle.format.specs.Operands.{dimension, form, immediates, reprs}
 abbrev pub chosen : ℕ → ℕ
 chosen f = get_or (0 ∷ 0 ∷ 4 ∷ 8 ∷ 2 ∷ []) f 0
 
-abbrev pub mask : ℕ → ℕ
-mask f = 2 ^ chosen f - 1
-
 -- as many immediates as the form has components
 abbrev pub counted : ℕ → ℕ
 counted f = get_or (0 ∷ 1 ∷ 4 ∷ 4 ∷ 4 ∷ []) f 0

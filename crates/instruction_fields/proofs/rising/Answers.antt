@@ -1,9 +1,6 @@
-use Rattle.instruction_fields.proofs.Chained.{begin, not_risen, too_high, not_exact, rises_on, risen}
+use Rattle.instruction_fields.proofs.Chained.{not_risen, too_high, not_exact, rises_on}
 use Rattle.instruction_fields.proofs.rising.Goals.{then-k-last-via-then-k-last, then-k-last-via-else-k-last+then-k-ge4, then-k-last-via-else-k-last+else-k-ge4+then-not-exact_extension}
 use Rattle.instruction_fields.proofs.rising.Goals as goal
-
-pub loop-at-init : goal.loop-at-init
-loop-at-init c = begin _ _ _ c.requires.0 c.requires.1
 
 pub returns-then-k-last : goal.returns-then-k-last
 returns-then-k-last c =
@@ -15,6 +12,3 @@ returns-then-k-last c =
 
 pub loop-at-preserved : goal.loop-at-preserved
 loop-at-preserved c = rises_on c.loop-at.invariant c.loop-at-test.true _ c.dword-e.ensures c.if-k-last.false c.if-k-ge4.false _ c.exact_extension.ensures c.if-not-exact_extension.false
-
-pub returns : goal.returns
-returns c = risen c.loop-at.invariant c.loop-at-test.false
