@@ -1,16 +1,14 @@
 -- Whether a header may have a version token, by the checks of a chunk without instructions.
 use Prim.Native.Nat.{ℕ, ◌<◌, ◌≤◌}
 use mathlib.Core.Path.{◌≡◌, refl, sym, ap, ◌∙◌}
-use mathlib.Core.Bool.{true, false}
+use mathlib.Core.Bool.{false}
 use mathlib.Core.Option.{Option, none as nothing, some as just}
 use lib.ListN.{drop}
 use borrow.Author.Tests.{lt-ltb, le-ltb}
 use Rattle.format.specs.declared.Refusal.{Refusal}
 use Rattle.format.specs.Refusals.{SHEX, first_of, header_tests}
 use Rattle.format.specs.Counts.{within}
-use Rattle.format.proofs.Dwords.{impossible}
-use Rattle.header.specs.declared.Checked.{Checked}
-use Rattle.header.specs.declared.Checked.TheVariants.{Passed, Refused}
+use Rattle.std.specs.Prelude.{is_ok}
 use Rattle.header.specs.Header.{checked, version_of}
 use Rattle.reading.specs.Confirm.{untold}
 
@@ -24,18 +22,10 @@ module _ (e v : ℕ) (h : e ≤ 3) where
   unfolding first_of within
   by_version = rw (le-ltb 3 e h)
 
-  told : (x : Option Refusal) {c : Checked} {u : ℕ} → c ≡ checked x v → c ≡ Passed u → true ≡ untold x
-  told nothing a b = refl
-  told (just r) a b = impossible (cc)
+  alike : (x : Option Refusal) → is_ok (checked x v) ≡ untold x
+  alike nothing = refl
+  alike (just r) = refl
 
-  refused : (x : Option Refusal) {c : Checked} {r : Refusal} → c ≡ checked x v → c ≡ Refused r → false ≡ untold x
-  refused nothing a b = impossible (cc)
-  refused (just r) a b = refl
-
-  pub version_taken : {c : Checked} {u : ℕ} → c ≡ version_of 8 v 2 → c ≡ Passed u → true ≡ untold (first_of (header_tests e SHEX 8 v 2))
+  pub version_told : is_ok (version_of 8 v 2) ≡ untold (first_of (header_tests e SHEX 8 v 2))
   unfolding version_of
-  version_taken a b = told (first_of (drop 5 (header_tests 0 SHEX 8 v 2))) a b ∙ ap untold (sym by_version)
-
-  pub version_refused : {c : Checked} {r : Refusal} → c ≡ version_of 8 v 2 → c ≡ Refused r → false ≡ untold (first_of (header_tests e SHEX 8 v 2))
-  unfolding version_of
-  version_refused a b = refused (first_of (drop 5 (header_tests 0 SHEX 8 v 2))) a b ∙ ap untold (sym by_version)
+  version_told = alike (first_of (drop 5 (header_tests 0 SHEX 8 v 2))) ∙ ap untold (sym by_version)
