@@ -53,23 +53,23 @@ first_of m i l ds {ps} {r} e = go (read_item m i ds) refl e
     go malformed p z = impossible (cc)
     go (got x left) p z = rest x left p (read_items m l left) refl z
 
-pub record Doing (ds : List ℕ) (from count row word : ℕ) (ops₀ ws₀ ops ws : List ℕ) (i k s d : ℕ) : Type 0 where
+pub record Doing (ds : List ℕ) (from count row word : ℕ) (ops₀ ws₀ ops ws : List ℕ) (i : ℕ) (z : Sums) : Type 0 where
   pub room : Room (operands_of count (drop from ds)) (length ds) from (length ops₀) (length ws₀) row word
   pub done : List Tree
   pub todo : List Tree
   pub both : room.trees ≡ done ++ todo
-  pub left : operands_of (count - i) (drop (from + d) ds) ≡ got todo room.rest
+  pub left : operands_of (count - i) (drop (from + z.dwords) ds) ≡ got todo room.rest
   pub turn : i ≤ count
-  pub rows_are : parts_rows done ≡ k
-  pub words_are : length (parts_words done) ≡ s
-  pub dwords_are : length (op.parts_dwords done) ≡ d
-  pub within : from + d ≤ length ds
+  pub rows_are : parts_rows done ≡ z.rows
+  pub words_are : length (parts_words done) ≡ z.words
+  pub dwords_are : length (op.parts_dwords done) ≡ z.dwords
+  pub within : from + z.dwords ≤ length ds
   pub rows_put : Over 0 (parts_table row word done) ops₀ ops
   pub words_put : Over 0 (parts_words done) ws₀ ws
   pub long : length ops ≡ length ops₀
   pub long_words : length ws ≡ length ws₀
 
-pub begin : {ds : List ℕ} {from count row word : ℕ} {ops ws : List ℕ} → Room (operands_of count (drop from ds)) (length ds) from (length ops) (length ws) row word → Doing ds from count row word ops ws ops ws 0 0 0 0
+pub begin : {ds : List ℕ} {from count row word : ℕ} {ops ws : List ℕ} → Room (operands_of count (drop from ds)) (length ds) from (length ops) (length ws) row word → Doing ds from count row word ops ws ops ws 0 (record { rows = 0; words = 0; dwords = 0 })
 unfolding parts_rows parts_words parts_table op.parts_dwords
 begin {ds} {from} {count} {row} {word} {ops} {ws} q =
     let a : count - 0 ≡ count = omega arith in
@@ -121,35 +121,35 @@ snoc_table : (r w : ℕ) (p : List Tree) (t : Tree) → parts_table r w (p ++ (t
 unfolding parts_table
 snoc_table r w p t = table_append r w p (t ∷ []) ∙ ap (λ (l : List ℕ). parts_table r w p ++ l) (append-nil (tree_table (r + parts_rows p) (w + length (parts_words p)) t))
 
-module _ {ds : List ℕ} {from count row word : ℕ} {ops₀ ws₀ ops ws : List ℕ} {i k s d : ℕ} (g : Doing ds from count row word ops₀ ws₀ ops ws i k s d) (h : i < count) where
-  pub head : First false o (replicate (count - (i + 1)) o) (drop (from + d) ds) g.todo g.room.rest
+module _ {ds : List ℕ} {from count row word : ℕ} {ops₀ ws₀ ops ws : List ℕ} {i : ℕ} {z : Sums} (g : Doing ds from count row word ops₀ ws₀ ops ws i z) (h : i < count) where
+  pub head : First false o (replicate (count - (i + 1)) o) (drop (from + z.dwords) ds) g.todo g.room.rest
   head =
       let e : count - i ≡ suc (count - (i + 1)) = omega arith in
-      first_of false o (replicate (count - (i + 1)) o) (drop (from + d) ds) (sym (ap (λ (n : ℕ). operands_of n (drop (from + d) ds)) e) ∙ g.left)
+      first_of false o (replicate (count - (i + 1)) o) (drop (from + z.dwords) ds) (sym (ap (λ (n : ℕ). operands_of n (drop (from + z.dwords) ds)) e) ∙ g.left)
 
   abbrev pub t : Tree
   t = head.tree
 
-  read : op.operand 64 (drop (from + d) ds) ≡ got t head.left
+  read : op.operand 64 (drop (from + z.dwords) ds) ≡ got t head.left
   read = unfold read_item in head.one
 
   pub record Turn : Type 0 where
-    pub within : from + d + length (op.dwords t) ≤ length ds
-    pub left : head.left ≡ drop (from + d + length (op.dwords t)) ds
+    pub within : from + z.dwords + length (op.dwords t) ≤ length ds
+    pub left : head.left ≡ drop (from + z.dwords + length (op.dwords t)) ds
     pub fits : tree_rows t + length (tree_words t) ≤ length (op.dwords t)
-    pub for_rows : 16 * (k + tree_rows t) ≤ length ops₀
-    pub for_words : s + length (tree_words t) ≤ length ws₀
-    pub row_fits : row + k + tree_rows t < 2 ^ 32
-    pub word_fits : word + s + length (tree_words t) < 2 ^ 32
+    pub for_rows : 16 * (z.rows + tree_rows t) ≤ length ops₀
+    pub for_words : z.words + length (tree_words t) ≤ length ws₀
+    pub row_fits : row + z.rows + tree_rows t < 2 ^ 32
+    pub word_fits : word + z.words + length (tree_words t) < 2 ^ 32
     pub few : length ds < 2 ^ 32
     pub long : length ops ≡ length ops₀
     pub long_words : length ws ≡ length ws₀
 
   pub turn_of : Turn
   turn_of =
-      let p : op.dwords t ++ head.left ≡ drop (from + d) ds = all_got (makes_operand 64 (drop (from + d) ds)) read in
-      let n : length (op.dwords t) + length head.left ≡ length ds - (from + d) = sym (length-append (op.dwords t) head.left) ∙ ap length p ∙ length-drop (from + d) ds in
-      let q : head.left ≡ drop (from + d + length (op.dwords t)) ds = sym (drop-append_seam (op.dwords t) head.left) ∙ ap (drop (length (op.dwords t))) p ∙ drop-drop (length (op.dwords t)) (from + d) ds in
+      let p : op.dwords t ++ head.left ≡ drop (from + z.dwords) ds = all_got (makes_operand 64 (drop (from + z.dwords) ds)) read in
+      let n : length (op.dwords t) + length head.left ≡ length ds - (from + z.dwords) = sym (length-append (op.dwords t) head.left) ∙ ap length p ∙ length-drop (from + z.dwords) ds in
+      let q : head.left ≡ drop (from + z.dwords + length (op.dwords t)) ds = sym (drop-append_seam (op.dwords t) head.left) ∙ ap (drop (length (op.dwords t))) p ∙ drop-drop (length (op.dwords t)) (from + z.dwords) ds in
       let a : g.room.trees ≡ g.done ++ (t ∷ head.more) = g.both ∙ ap (λ (l : List Tree). g.done ++ l) head.all in
       let r : parts_rows g.room.trees ≡ parts_rows g.done + (tree_rows t + parts_rows head.more) = ap parts_rows a ∙ rows_one g.done t head.more in
       let w : length (parts_words g.room.trees) ≡ length (parts_words g.done) + (length (tree_words t) + length (parts_words head.more)) = ap (λ (l : List Tree). length (parts_words l)) a ∙ words_one g.done t head.more in
@@ -169,10 +169,13 @@ module _ {ds : List ℕ} {from count row word : ℕ} {ops₀ ws₀ ops ws : List
         long_words = g.long_words;
       }
 
-  pub turn_room : (f : ℕ) → f ≡ k * 16 → ow.Room (op.operand 64 (drop (from + d) ds)) (length (take (length ops - f) (drop f ops))) (length (take (length ws - s) (drop s ws))) (row + k) (word + s)
-  turn_room f ef =
+  abbrev pub f : ℕ
+  f = z.rows * 16
+
+  pub turn_room : ow.Room (op.operand 64 (drop (from + z.dwords) ds)) (length (take (length ops - f) (drop f ops))) (length (take (length ws - z.words) (drop z.words ws))) (row + z.rows) (word + z.words)
+  turn_room =
       let ll = lent_length f ops in
-      let lm = lent_length s ws in
+      let lm = lent_length z.words ws in
       record {
         tree = t;
         rest = head.left;
@@ -184,9 +187,9 @@ module _ {ds : List ℕ} {from count row word : ℕ} {ops₀ ws₀ ops ws : List
         dwords_fit = omega (arith, turn_of);
       }
 
-  module _ (f : ℕ) (ef : f ≡ k * 16) (a : Sums) (ys zs : List ℕ)
-      (wr : ow.Wrote (op.operand 64 (drop (from + d) ds)) (row + k) (word + s) (take (length ops - f) (drop f ops)) (take (length ws - s) (drop s ws)) a ys zs) where
-    pub put : ow.Put t (row + k) (word + s) (take (length ops - f) (drop f ops)) (take (length ws - s) (drop s ws)) a ys zs
+  module _ {a : Sums} {ys zs : List ℕ}
+      (wr : ow.Wrote (op.operand 64 (drop (from + z.dwords) ds)) (row + z.rows) (word + z.words) (take (length ops - f) (drop f ops)) (take (length ws - z.words) (drop z.words ws)) a ys zs) where
+    pub put : ow.Put t (row + z.rows) (word + z.words) (take (length ops - f) (drop f ops)) (take (length ws - z.words) (drop z.words ws)) a ys zs
     put = wr t head.left read
 
     pub record Sizes : Type 0 where
@@ -198,22 +201,22 @@ module _ {ds : List ℕ} {from count row word : ℕ} {ops₀ ws₀ ops ws : List
     pub sizes : Sizes
     sizes = record { rows_are = put.rows_are; words_are = put.words_are; dwords_are = put.dwords_are; turn = turn_of }
 
-    pub turns : Doing ds from count row word ops₀ ws₀ (put_mid f (length ops - f) ops ys) (put_mid s (length ws - s) ws zs) (i + 1) (k + a.rows) (s + a.words) (d + a.dwords)
+    pub turns : Doing ds from count row word ops₀ ws₀ (put_mid f (length ops - f) ops ys) (put_mid z.words (length ws - z.words) ws zs) (i + 1) (record { rows = z.rows + a.rows; words = z.words + a.words; dwords = z.dwords + a.dwords })
     turns =
-        let T : List ℕ = tree_table (row + k) (word + s) t in
-        let lt : length T ≡ 16 * tree_rows t = table_length (row + k) (word + s) t in
+        let T : List ℕ = tree_table (row + z.rows) (word + z.words) t in
+        let lt : length T ≡ 16 * tree_rows t = table_length (row + z.rows) (word + z.words) t in
         let lp = parts_length row word g.done in
         let o₁ : Over f T ops (put_mid f (length ops - f) ops ys) = back f ops ys T (16 * tree_rows t) (sym lt) put.rows_put in
-        let o₂ : Over s (tree_words t) ws (put_mid s (length ws - s) ws zs) = back s ws zs (tree_words t) (length (tree_words t)) refl put.words_put in
+        let o₂ : Over z.words (tree_words t) ws (put_mid z.words (length ws - z.words) ws zs) = back z.words ws zs (tree_words t) (length (tree_words t)) refl put.words_put in
         let o₃ : Over 0 (parts_table row word g.done ++ T) ops₀ (put_mid f (length ops - f) ops ys) =
         over_more 0 f (parts_table row word g.done) T ops₀ ops (put_mid f (length ops - f) ops ys) (omega (arith, g.rows_are, turn_of.for_rows)) (omega (arith, g.rows_are)) g.rows_put o₁ in
-        let o₄ : Over 0 (parts_words g.done ++ tree_words t) ws₀ (put_mid s (length ws - s) ws zs) =
-        over_more 0 s (parts_words g.done) (tree_words t) ws₀ ws (put_mid s (length ws - s) ws zs) (omega (arith, g.words_are, turn_of.for_words)) (omega (arith, g.words_are)) g.words_put o₂ in
+        let o₄ : Over 0 (parts_words g.done ++ tree_words t) ws₀ (put_mid z.words (length ws - z.words) ws zs) =
+        over_more 0 z.words (parts_words g.done) (tree_words t) ws₀ ws (put_mid z.words (length ws - z.words) ws zs) (omega (arith, g.words_are, turn_of.for_words)) (omega (arith, g.words_are)) g.words_put o₂ in
         let eT : parts_table row word g.done ++ T ≡ parts_table row word (g.done ++ (t ∷ [])) =
-        (λ z. parts_table row word g.done ++ tree_table (row + sym g.rows_are z) (word + sym g.words_are z) t) ∙ sym (snoc_table row word g.done t) in
-        let e : from + d + length (op.dwords t) ≡ from + (d + a.dwords) = omega (arith, put.dwords_are) in
-        let la : length (parts_table row word g.done ++ T) ≡ 16 * (k + tree_rows t) = length-append (parts_table row word g.done) T ∙ omega (arith, g.rows_are) in
-        let lb : length (parts_words g.done ++ tree_words t) ≡ s + length (tree_words t) = length-append (parts_words g.done) (tree_words t) ∙ omega (arith, g.words_are) in
+        (λ v. parts_table row word g.done ++ tree_table (row + sym g.rows_are v) (word + sym g.words_are v) t) ∙ sym (snoc_table row word g.done t) in
+        let e : from + z.dwords + length (op.dwords t) ≡ from + (z.dwords + a.dwords) = omega (arith, put.dwords_are) in
+        let la : length (parts_table row word g.done ++ T) ≡ 16 * (z.rows + tree_rows t) = length-append (parts_table row word g.done) T ∙ omega (arith, g.rows_are) in
+        let lb : length (parts_words g.done ++ tree_words t) ≡ z.words + length (tree_words t) = length-append (parts_words g.done) (tree_words t) ∙ omega (arith, g.words_are) in
         record {
           room = g.room;
           done = g.done ++ (t ∷ []);
@@ -226,17 +229,16 @@ module _ {ds : List ℕ} {from count row word : ℕ} {ops₀ ws₀ ops ws : List
           dwords_are = omega (arith, snoc_dwords g.done t, g.dwords_are, put.dwords_are);
           within = omega (arith, turn_of.within, put.dwords_are);
           rows_put = subst (λ (l : List ℕ). Over 0 l ops₀ (put_mid f (length ops - f) ops ys)) eT o₃;
-          words_put = subst (λ (l : List ℕ). Over 0 l ws₀ (put_mid s (length ws - s) ws zs)) (sym (snoc_words g.done t)) o₄;
+          words_put = subst (λ (l : List ℕ). Over 0 l ws₀ (put_mid z.words (length ws - z.words) ws zs)) (sym (snoc_words g.done t)) o₄;
           long = over_length 0 (parts_table row word g.done ++ T) ops₀ (put_mid f (length ops - f) ops ys) (omega (arith, turn_of.for_rows)) o₃;
-          long_words = over_length 0 (parts_words g.done ++ tree_words t) ws₀ (put_mid s (length ws - s) ws zs) (omega (arith, turn_of.for_words)) o₄;
+          long_words = over_length 0 (parts_words g.done ++ tree_words t) ws₀ (put_mid z.words (length ws - z.words) ws zs) (omega (arith, turn_of.for_words)) o₄;
         }
 
-pub ended : {ds : List ℕ} {from count row word : ℕ} {ops₀ ws₀ ops ws : List ℕ} {i k s d : ℕ} → Doing ds from count row word ops₀ ws₀ ops ws i k s d → count ≤ i → (a : Sums) → a.rows ≡ k → a.words ≡ s → a.dwords ≡ d
-    → WroteRun (operands_of count (drop from ds)) row word ops₀ ws₀ a ops ws
+pub ended : {ds : List ℕ} {from count row word : ℕ} {ops₀ ws₀ ops ws : List ℕ} {i : ℕ} {a : Sums} → Doing ds from count row word ops₀ ws₀ ops ws i a → count ≤ i → WroteRun (operands_of count (drop from ds)) row word ops₀ ws₀ a ops ws
 unfolding read_items
-ended {ds} {from} {count} {row} {word} {ops₀} {ws₀} {ops} {ws} {i} {k} {s} {d} g h a e₀ e₁ e₂ ps r e =
+ended {ds} {from} {count} {row} {word} {ops₀} {ws₀} {ops} {ws} {i} {a} g h ps r e =
     let z : count - i ≡ 0 = omega (arith, g.turn) in
-    let n : operands_of 0 (drop (from + d) ds) ≡ got g.todo g.room.rest = sym (ap (λ (m : ℕ). operands_of m (drop (from + d) ds)) z) ∙ g.left in
+    let n : operands_of 0 (drop (from + a.dwords) ds) ≡ got g.todo g.room.rest = sym (ap (λ (m : ℕ). operands_of m (drop (from + a.dwords) ds)) z) ∙ g.left in
     let y : [] ≡ g.todo = cc in
     let x : g.room.trees ≡ g.done = g.both ∙ ap (λ (l : List Tree). g.done ++ l) (sym y) ∙ append-nil g.done in
     let q : got ps r ≡ got g.room.trees g.room.rest = sym e ∙ g.room.is in
@@ -244,10 +246,10 @@ ended {ds} {from} {count} {row} {word} {ops₀} {ws₀} {ops} {ws} {i} {k} {s} {
     let v : g.done ≡ ps = sym (p ∙ x) in
     subst (λ (l : List Tree). Put l row word ops₀ ws₀ a.rows a.words ops ws × (a.dwords ≡ length (op.parts_dwords l))) v (
       record {
-        rows_are = e₀ ∙ sym g.rows_are;
-        words_are = e₁ ∙ sym g.words_are;
+        rows_are = sym g.rows_are;
+        words_are = sym g.words_are;
         rows_put = over_front (parts_table row word g.done) ops₀ ops g.rows_put ∙ ap (λ (m : ℕ). parts_table row word g.done ++ drop m ops₀) (parts_length row word g.done);
         words_put = over_front (parts_words g.done) ws₀ ws g.words_put;
       },
-      e₂ ∙ sym g.dwords_are,
+      sym g.dwords_are,
     )

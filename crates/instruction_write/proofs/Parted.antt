@@ -26,7 +26,6 @@ use Rattle.operand_rows.specs.declared.Sums.{Sums}
 use Rattle.operand_rows.proofs.Lists.{lent_length, back, over_more, over_front, over_length}
 use Rattle.tokens.proofs.Places.{left_at, read_within}
 use Rattle.instruction_write.specs.Writes.{operands_of, Room, Put, WroteRun, BodyRoom, WroteBody}
-use Rattle.instruction_write.specs.declared.Sizes.{Sizes}
 use Rattle.instruction_write.proofs.Looping.{all_got, first_of}
 
 -- parts that are dwords as they are
@@ -265,7 +264,7 @@ three m x ds at ps h e =
       words_long = ap length W ∙ length-append (take x.before (drop at ds) ++ parts_words p₂) _ ∙ omega (arith, length-append (take x.before (drop at ds)) (parts_words p₂), k₁, k₃);
     }
 
-module _ (m : Bool) (x : Shape) (ds : List ℕ) (at : ℕ) {ops ws row word : ℕ} (q : BodyRoom (read_items m (items_of x) (drop at ds)) (length ds) at ops ws row word) where
+module _ (m : Bool) (x : Shape) (ds : List ℕ) (at : ℕ) {ops row word : ℕ} (W : List ℕ) (q : BodyRoom (read_items m (items_of x) (drop at ds)) (length ds) at ops (length W) row word) where
   pub split : Three m x ds at q.room.trees
   split = three m x ds at q.room.trees q.room.within (q.room.is ∙ ap (got q.room.trees) q.whole)
 
@@ -276,7 +275,7 @@ module _ (m : Bool) (x : Shape) (ds : List ℕ) (at : ℕ) {ops ws row word : �
     pub rows_are : parts_rows q.room.trees ≡ parts_rows split.trees
     pub words_long : length (parts_words q.room.trees) ≡ x.before + length (parts_words split.trees) + (length ds - split.end)
     pub for_rows : 16 * parts_rows q.room.trees ≤ ops
-    pub for_words : length (parts_words q.room.trees) ≤ ws
+    pub for_words : length (parts_words q.room.trees) ≤ length W
     pub row_fits : row + parts_rows q.room.trees < 2 ^ 32
     pub word_fits : word + length (parts_words q.room.trees) < 2 ^ 32
     pub few : length ds < 2 ^ 32
@@ -295,21 +294,22 @@ module _ (m : Bool) (x : Shape) (ds : List ℕ) (at : ℕ) {ops ws row word : �
     few = q.room.few;
   }
 
-  module _ (W W₁ : List ℕ) (lw : length W ≡ ws) (b : ℕ) (eb : b ≡ x.before) (c₁ : W₁ ≡ take b (drop at ds) ++ drop b W) where
+  -- the dwords in front of the operands are copied
+  module _ {W₁ : List ℕ} (c₁ : W₁ ≡ take x.before (drop at ds) ++ drop x.before W) where
     pub over₁ : Over 0 (take x.before (drop at ds)) W W₁
-    over₁ = front_over (take x.before (drop at ds)) W W₁ x.before (sym split.before_long) (subst (λ (n : ℕ). W₁ ≡ take n (drop at ds) ++ drop n W) eb c₁)
+    over₁ = front_over (take x.before (drop at ds)) W W₁ x.before (sym split.before_long) c₁
 
     pub same₁ : length W₁ ≡ length W
     same₁ = over_length 0 (take x.before (drop at ds)) W W₁ (omega (arith, split.before_long, counted)) over₁
 
-    pub run_room : Room (operands_of x.operands (drop (at + b) ds)) (length ds) (at + b) ops (length (take (length W₁ - b) (drop b W₁))) row (word + b)
+    pub run_room : Room (operands_of x.operands (drop (at + x.before) ds)) (length ds) (at + x.before) ops (length (take (length W₁ - x.before) (drop x.before W₁))) row (word + x.before)
     run_room =
-        let ll = lent_length b W₁ in
+        let ll = lent_length x.before W₁ in
         let ls = same₁ in
         record {
           trees = split.trees;
           rest = split.left;
-          is = ap (λ (n : ℕ). operands_of x.operands (drop (at + n) ds)) eb ∙ split.is;
+          is = split.is;
           within = omega (arith, counted);
           for_rows = omega (arith, counted);
           for_words = omega (arith, counted);
@@ -318,17 +318,18 @@ module _ (m : Bool) (x : Shape) (ds : List ℕ) (at : ℕ) {ops ws row word : �
           few = q.room.few;
         }
 
-    module _ (L L' zs : List ℕ) (a : Sums) (wr : WroteRun (operands_of x.operands (drop (at + b) ds)) row (word + b) L (take (length W₁ - b) (drop b W₁)) a L' zs) where
-      pub ran : Put split.trees row (word + b) L (take (length W₁ - b) (drop b W₁)) a.rows a.words L' zs × (a.dwords ≡ length (op.parts_dwords split.trees))
-      ran = wr split.trees split.left (ap (λ (n : ℕ). operands_of x.operands (drop (at + n) ds)) eb ∙ split.is)
+    -- and the operands are written
+    module _ {L L' zs : List ℕ} {a : Sums} (wr : WroteRun (operands_of x.operands (drop (at + x.before) ds)) row (word + x.before) L (take (length W₁ - x.before) (drop x.before W₁)) a L' zs) where
+      pub ran : Put split.trees row (word + x.before) L (take (length W₁ - x.before) (drop x.before W₁)) a.rows a.words L' zs × (a.dwords ≡ length (op.parts_dwords split.trees))
+      ran = wr split.trees split.left split.is
 
       abbrev pub W₂ : List ℕ
-      W₂ = put_mid b (length W₁ - b) W₁ zs
+      W₂ = put_mid x.before (length W₁ - x.before) W₁ zs
 
       pub over₂ : Over 0 (take x.before (drop at ds) ++ parts_words split.trees) W W₂
       over₂ =
-          over_more 0 b (take x.before (drop at ds)) (parts_words split.trees) W W₁ W₂ (omega (arith, split.before_long, counted)) (omega (arith, split.before_long)) over₁
-          (back b W₁ zs (parts_words split.trees) (length (parts_words split.trees)) refl ran.0.words_put)
+          over_more 0 x.before (take x.before (drop at ds)) (parts_words split.trees) W W₁ W₂ (omega (arith, split.before_long, counted)) (omega (arith, split.before_long)) over₁
+          (back x.before W₁ zs (parts_words split.trees) (length (parts_words split.trees)) refl ran.0.words_put)
 
       front_long : length (take x.before (drop at ds) ++ parts_words split.trees) ≡ x.before + length (parts_words split.trees)
       front_long = length-append (take x.before (drop at ds)) (parts_words split.trees) ∙ omega (arith, split.before_long)
@@ -338,42 +339,47 @@ module _ (m : Bool) (x : Shape) (ds : List ℕ) (at : ℕ) {ops ws row word : �
 
       pub record Known : Type 0 where
         pub counted_are : Counted
-        pub long : length W ≡ ws
         pub long₁ : length W₁ ≡ length W
         pub long₂ : length W₂ ≡ length W
-        pub before : b ≡ x.before
         pub rows : a.rows ≡ parts_rows split.trees
         pub words : a.words ≡ length (parts_words split.trees)
         pub dwords : a.dwords ≡ length (op.parts_dwords split.trees)
 
       pub known : Known
-      known = record { counted_are = counted; long = lw; long₁ = same₁; long₂ = same₂; before = eb; rows = ran.0.rows_are; words = ran.0.words_are; dwords = ran.1 }
+      known = record { counted_are = counted; long₁ = same₁; long₂ = same₂; rows = ran.0.rows_are; words = ran.0.words_are; dwords = ran.1 }
 
-      module _ (n e f k : ℕ) (en : n ≡ length ds) (ee : e ≡ at + b + a.dwords) (ef : f ≡ b + a.words) (ek : k ≡ n - e) where
+      -- and the dwords behind them, up to the end n, are copied
+      module _ {n : ℕ} (en : n ≡ length ds) where
+        abbrev pub e : ℕ
+        e = at + x.before + a.dwords
+
+        abbrev pub f : ℕ
+        f = x.before + a.words
+
+        abbrev pub k : ℕ
+        k = n - e
+
         end_is : e ≡ split.end
         end_is = omega (arith, known)
 
         pub copy_room : (e + k ≤ length ds) × (k ≤ length (take (length W₂ - f) (drop f W₂)))
         copy_room = let ll = lent_length f W₂ in let z = end_is in (omega (arith, known), omega (arith, known))
 
-        pub written : (vs : List ℕ) → vs ≡ take k (drop e ds) ++ drop k (take (length W₂ - f) (drop f W₂)) → (z : Sizes) → z.rows ≡ a.rows → z.words ≡ f + k
-            → WroteBody (read_items m (items_of x) (drop at ds)) row word L W z L' (put_mid f (length W₂ - f) W₂ vs)
-        written vs ev z zr zw ps g =
+        pub written : {vs : List ℕ} → vs ≡ take k (drop e ds) ++ drop k (take (length W₂ - f) (drop f W₂)) → WroteBody (read_items m (items_of x) (drop at ds)) row word L W (record { rows = a.rows; words = f + k }) L' (put_mid f (length W₂ - f) W₂ vs)
+        written {vs} ev ps g =
             let y = end_is in
             let A : List ℕ = take x.before (drop at ds) ++ parts_words split.trees in
-            let kk : k ≡ length (drop e ds) = omega (arith, length-drop e ds) in
-            let tk : take k (drop e ds) ≡ drop split.end ds = take_all k (drop e ds) (omega arith) ∙ ap (λ (j : ℕ). drop j ds) y in
+            let tk : take k (drop e ds) ≡ drop split.end ds = take_all k (drop e ds) (omega (arith, length-drop e ds, en)) ∙ ap (λ (j : ℕ). drop j ds) y in
             let kl : k ≡ length (drop split.end ds) = omega (arith, split.behind_long) in
             let o₃ : Over f (drop split.end ds) W₂ (put_mid f (length W₂ - f) W₂ vs) = back f W₂ vs (drop split.end ds) k kl (ev ∙ ap (λ (l : List ℕ). l ++ drop k (take (length W₂ - f) (drop f W₂))) tk) in
             let o₄ : Over 0 (A ++ drop split.end ds) W (put_mid f (length W₂ - f) W₂ vs) = over_more 0 f A (drop split.end ds) W W₂ (put_mid f (length W₂ - f) W₂ vs) (omega (arith, front_long, counted)) (omega (arith, front_long, known)) over₂ o₃ in
             let ww : A ++ drop split.end ds ≡ parts_words q.room.trees = sym split.words_are in
             let p : got q.room.trees q.room.rest ≡ got ps [] = sym q.room.is ∙ g in
             let v : q.room.trees ≡ ps = cc in
-            let eb' : word + b ≡ word + x.before = omega arith in
-            subst (λ (l : List Tree). Put l row word L W z.rows z.words L' (put_mid f (length W₂ - f) W₂ vs)) v
+            subst (λ (l : List Tree). Put l row word L W a.rows (f + k) L' (put_mid f (length W₂ - f) W₂ vs)) v
             (record {
-              rows_are = zr ∙ ran.0.rows_are ∙ sym split.rows_are;
-              words_are = zw ∙ omega (arith, known, split.words_long);
-              rows_put = ran.0.rows_put ∙ (λ i. (ap (λ (n : ℕ). parts_table row n split.trees) eb' ∙ sym (split.table_is row word)) i ++ drop (16 * sym split.rows_are i) L);
+              rows_are = ran.0.rows_are ∙ sym split.rows_are;
+              words_are = omega (arith, known, split.words_long);
+              rows_put = ran.0.rows_put ∙ (λ i. sym (split.table_is row word) i ++ drop (16 * sym split.rows_are i) L);
               words_put = over_front (parts_words q.room.trees) W (put_mid f (length W₂ - f) W₂ vs) (subst (λ (l : List ℕ). Over 0 l W (put_mid f (length W₂ - f) W₂ vs)) ww o₄);
             })

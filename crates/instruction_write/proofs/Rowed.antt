@@ -1,21 +1,20 @@
 -- The rows of instructions.
 use Prim.Native.Nat.{ℕ, ◌+◌, ◌%◌, ◌^◌, ◌≤◌}
 use mathlib.Core.Path.{◌≡◌, ap, ◌∙◌}
-use mathlib.Core.List.{List, [], ◌∷◌, ◌++◌}
+use mathlib.Core.List.{List, [], ◌∷◌}
 use mathlib.Core.Bool.{Bool, true, false, cond}
-use lib.ListN.{length, take, drop}
-use lib.Seq.{slice, slice_empty, take_all}
+use lib.ListN.{length}
+use lib.Seq.{slice, slice_empty}
 use lib.Dec.{ltb}
 use native.Mathlib.Omega.{arith}
 use Rattle.format.specs.Dwords.{bits}
-use Rattle.format.specs.Framing.{code, long}
+use Rattle.format.specs.Framing.{code}
 use Rattle.format.specs.Counts.{Fields, of_type, type_bits, rising}
 use Rattle.format.specs.Declarations.{Layout}
 use Rattle.format.specs.Instructions.{fields_of, extensions}
 use Rattle.layouts.specs.declared.Shape.{Shape}
 use Rattle.layouts.specs.Shapes.{kind_number, meant}
-use Rattle.instruction_write.specs.Writes.{row_for, long_bit, RowReady, plain_row, Unread}
-use Rattle.instruction_write.specs.declared.Sizes.{Sizes}
+use Rattle.instruction_write.specs.Writes.{row_for, long_bit, RowReady}
 
 -- the chain between two places
 pub chain_slice : (x : Layout) (ds : List ℕ) (end to : ℕ) → to ≡ cond (ltb x.kind 3) end 1 → slice 1 to ds ≡ extensions x (slice 1 end ds)
