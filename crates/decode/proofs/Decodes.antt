@@ -8,8 +8,8 @@ use lib.ListN.{length, get_or}
 use lib.Dec.{ltb}
 use Rattle.format.specs.declared.Refusal.{Refusal}
 use Rattle.format.specs.declared.Refusal.TheVariants.{Room}
-use Rattle.format.specs.declared.Answer.{Answer}
-use Rattle.format.specs.declared.Answer.TheVariants.{Refused}
+use Rattle.std.specs.Prelude.{Result, Err}
+use Rattle.format.specs.declared.Accepted.{Accepted}
 use Rattle.format.specs.Dwords.{dwords_of}
 use Rattle.format.specs.Framing.{ceiling}
 use Rattle.format.specs.Refusals.{Outcome, refused, number, first_of, header, body, decode, answer, after, pools_after}
@@ -37,7 +37,7 @@ header_early edition four chunk e =
 
 module _ (edition four : ℕ) (chunk is os ws : List ℕ) where
   -- what is said of the outcome is said of the call
-  decoded : {o : Outcome} {a : Answer} {is' os' ws' : List ℕ} → decode edition four chunk (lent is os ws) ≡ o → Ends o is os ws a is' os' ws' → Decoded edition four chunk is os ws a is' os' ws'
+  decoded : {o : Outcome} {a : Result Accepted Refusal} {is' os' ws' : List ℕ} → decode edition four chunk (lent is os ws) ≡ o → Ends o is os ws a is' os' ws' → Decoded edition four chunk is os ws a is' os' ws'
   unfolding pools_after
   decoded q e = record {
     answered = rw q e.answered;
@@ -47,20 +47,20 @@ module _ (edition four : ℕ) (chunk is os ws : List ℕ) where
   }
 
   -- untouched
-  untouched : {r : Refusal} → ltb 10 (number r) ≡ false → Ends (refused r) is os ws (Refused r) is os ws
+  untouched : {r : Refusal} → ltb 10 (number r) ≡ false → Ends (refused r) is os ws (Err r) is os ws
   unfolding after answer
   untouched k = record { answered = refl; instructions = rw k refl; operands = rw k refl; words = rw k refl }
 
-  pub by_header : {r : Refusal} → header edition four chunk ≡ some r → Decoded edition four chunk is os ws (Refused r) is os ws
+  pub by_header : {r : Refusal} → header edition four chunk ≡ some r → Decoded edition four chunk is os ws (Err r) is os ws
   unfolding decode
   by_header e = decoded (rw e refl) (untouched (header_early edition four chunk e))
 
   module _ (p : header edition four chunk ≡ none) where
-    pub by_room : false ≡ has_room (length chunk) (length is) (length os) (length ws) → Decoded edition four chunk is os ws (Refused Room) is os ws
+    pub by_room : false ≡ has_room (length chunk) (length is) (length os) (length ws) → Decoded edition four chunk is os ws (Err Room) is os ws
     unfolding decode
     by_room e = decoded (rw (p, room_of chunk (lent is os ws), ← e) refl) (untouched refl)
 
-    pub by_body : true ≡ has_room (length chunk) (length is) (length os) (length ws) → {a : Answer} {is' os' ws' : List ℕ} {c : ℕ} → c ≡ ceiling edition → Ends (body c (dwords_of chunk)) is os ws a is' os' ws' →
+    pub by_body : true ≡ has_room (length chunk) (length is) (length os) (length ws) → {a : Result Accepted Refusal} {is' os' ws' : List ℕ} {c : ℕ} → c ≡ ceiling edition → Ends (body c (dwords_of chunk)) is os ws a is' os' ws' →
         Decoded edition four chunk is os ws a is' os' ws'
     unfolding decode
     by_body e z k = decoded (rw (p, room_of chunk (lent is os ws), ← e, z) refl) k

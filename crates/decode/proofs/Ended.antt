@@ -9,7 +9,7 @@ use lib.Dec.{T, ltb, nltb→le}
 use native.Mathlib.Omega.{arith}
 use Rattle.format.specs.declared.Refusal.{Refusal}
 use Rattle.format.specs.declared.Refusal.TheVariants.{OperandCount, Layout}
-use Rattle.format.specs.declared.Answer.TheVariants.{Accepted, Refused}
+use Rattle.std.specs.Prelude.{Ok, Err}
 use Rattle.format.specs.Dwords.{dwords_of}
 use Rattle.format.specs.Framing.{Framed, whole, zero_length, past_end, instruction, frame}
 use Rattle.format.specs.Instructions.{Instruction, Reading, ok, miscounted, inexact, read}
@@ -20,7 +20,7 @@ use Rattle.format.proofs.Refusals.{unless_accepted, accepted_fields, body_accept
 use Rattle.format.proofs.Rows.{all_fit}
 use Rattle.format.proofs.Room.{reads_count}
 use Rattle.header.specs.Header.{has_room}
-use Rattle.stream.specs.declared.Measured.TheVariants.{Fine, Refused as Stopped}
+use Rattle.stream.specs.declared.Needs.{Needs}
 use Rattle.stream.specs.Stream.{passes, measured}
 use Rattle.stream.proofs.Outcomes.{refused_body, fine_body}
 use Rattle.operand_rows.proofs.Lists.{over_front}
@@ -69,8 +69,8 @@ unfolding after
 zeroed rows e k pool pool' z = rw (e, k) z
 
 module _ (c : ℕ) (ds : List ℕ) {m : Bool} (q : m ≡ is_model51 (get_or ds 0 0)) where
-  pub refused_ends : {r : Refusal} → Stopped r ≡ measured (passes c m ds) → (is os ws is' os' ws' : List ℕ) → is' ≡ replicate (length is) 0 → os' ≡ replicate (length os) 0 → ws' ≡ replicate (length ws) 0 →
-      Ends (body c ds) is os ws (Refused r) is' os' ws'
+  pub refused_ends : {r : Refusal} → Err r ≡ measured (passes c m ds) → (is os ws is' os' ws' : List ℕ) → is' ≡ replicate (length is) 0 → os' ≡ replicate (length os) 0 → ws' ≡ replicate (length ws) 0 →
+      Ends (body c ds) is os ws (Err r) is' os' ws'
   refused_ends x is os ws is' os' ws' a b d =
       let e = refused_body c ds q x in
       let k = body_late c ds e in
@@ -99,12 +99,12 @@ module _ (c : ℕ) (ds : List ℕ) {m : Bool} (q : m ≡ is_model51 (get_or ds 0
   unfolding after
   hold rows e pool pool' z = rw e z
 
-  pub fine_ends : {v i o w : ℕ} → v ≡ get_or ds 0 0 → Fine i o w ≡ measured (passes c m ds) → (is os ws is' os' ws' : List ℕ) → Left c m ds start is os ws is' os' ws' → Ends (body c ds) is os ws (Accepted v i o w) is' os' ws'
-  fine_ends {v} {i} {o} {w} ev x is os ws is' os' ws' l =
+  pub fine_ends : {v : ℕ} {n : Needs} → v ≡ get_or ds 0 0 → Ok n ≡ measured (passes c m ds) → (is os ws is' os' ws' : List ℕ) → Left c m ds start is os ws is' os' ws' → Ends (body c ds) is os ws (Ok (record { version = v; instructions = n.instructions; operands = n.operands; words = n.words })) is' os' ws'
+  fine_ends {v} {n} ev x is os ws is' os' ws' l =
       let k = fine_body c ds q x in
       let b = both k.is in
       record {
-        answered = (λ j. Accepted (ev j) (k.instructions j) (k.operands j) (k.words j)) ∙ sym (ap answer k.is ∙ unfold answer in refl);
+        answered = (λ j. Ok (record { version = ev j; instructions = k.instructions j; operands = k.operands j; words = k.words j })) ∙ sym (ap answer k.is ∙ unfold answer in refl);
         instructions = hold (instruction_rows 8 0 0) k.is is is' (over_front (instruction_rows 8 0 0 k.list) is is' (rw (← b.same) at l.rows_put));
         operands = hold (λ l. parts_table 0 0 (all_parts l)) k.is os os' (over_front (parts_table 0 0 (all_parts k.list)) os os' (rw (← b.same) at l.operands_put));
         words = hold (λ l. parts_words (all_parts l)) k.is ws ws' (over_front (parts_words (all_parts k.list)) ws ws' (rw (← b.same) at l.words_put));
@@ -123,13 +123,13 @@ room_numbers a b d x y z e = go (ltb x a) (ltb y b) (ltb z d) refl refl refl e
     go false false false f g h e = (low x a f, low y b g, low z d h)
 
 -- a chunk that was measured can be written
-pub begins : (c : ℕ) (chunk : List ℕ) {m : Bool} {v i o w is os ws : ℕ} → m ≡ is_model51 v → Entered chunk v is os ws → Fine i o w ≡ measured (passes c m (dwords_of chunk)) → Writing c m (dwords_of chunk) start is os ws
-begins c chunk {m} {v} {i} {o} {w} {is} {os} {ws} em e x =
+pub begins : (c : ℕ) (chunk : List ℕ) {m : Bool} {v is os ws : ℕ} {n : Needs} → m ≡ is_model51 v → Entered chunk v is os ws → Ok n ≡ measured (passes c m (dwords_of chunk)) → Writing c m (dwords_of chunk) start is os ws
+begins c chunk {m} {v} {is} {os} {ws} {n} em e x =
     let ds : List ℕ = dwords_of chunk in
     let q : m ≡ is_model51 (get_or ds 0 0) = em ∙ ap is_model51 e.version_is in
     let k = fine_body c ds q x in
     let b = both c ds q k.is in
-    let n = room_numbers (16 * (length chunk / 4 - 2)) (16 * (length chunk / 4 - 2)) (length chunk / 4 - 2) is os ws (unfold has_room in e.roomy) in
+    let k₁ = room_numbers (16 * (length chunk / 4 - 2)) (16 * (length chunk / 4 - 2)) (length chunk / 4 - 2) is os ws (unfold has_room in e.roomy) in
     let r = (body_accepted c ds k.is).reads in
     let d : length (drop 2 ds) ≡ length chunk / 4 - 2 = length-drop 2 ds ∙ omega (arith, length_dwords chunk) in
     let f = all_fit k.list in
@@ -142,7 +142,7 @@ begins c chunk {m} {v} {i} {o} {w} {is} {os} {ws} em e x =
       fits = omega arith;
       first = b.first;
       second = b.second;
-      for_rows = rw (← b.same) (omega (arith, n.0, h, d));
-      for_operands = rw (← b.same) (omega (arith, n.1, f, g, d));
-      for_words = rw (← b.same) (omega (arith, n.2, f, g, d));
+      for_rows = rw (← b.same) (omega (arith, k₁.0, h, d));
+      for_operands = rw (← b.same) (omega (arith, k₁.1, f, g, d));
+      for_words = rw (← b.same) (omega (arith, k₁.2, f, g, d));
     }

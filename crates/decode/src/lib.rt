@@ -6,9 +6,8 @@ ghost use Rattle.format.specs.Dwords.{dwords_of};
 ghost use Rattle.format.specs.Refusals as h;
 ghost use Rattle.decode.specs.Decode as d;
 
-use format::{Answer, Refusal};
-use header::{Checked, ceiling, clear, decode_header, has_room, is_model51};
-use stream::Measured;
+use format::{Accepted, Answer, Refusal};
+use header::{ceiling, clear, decode_header, has_room, is_model51};
 use stream_write::write_all;
 
 // Reads the stream of a chunk whose header has passed, into pools that have room for it.
@@ -25,24 +24,20 @@ fn decode_body(
 {
     let model51 = is_model51(version);
     match stream::measure(chunk, ceiling, model51) {
-        Measured::Fine {
-            instructions: i,
-            operands: o,
-            words: w,
-        } => {
+        Ok(needs) => {
             write_all(chunk, ceiling, model51, instructions, operands, words);
-            Answer::Accepted {
+            Ok(Accepted {
                 version,
-                instructions: i,
-                operands: o,
-                words: w,
-            }
+                instructions: needs.instructions,
+                operands: needs.operands,
+                words: needs.words,
+            })
         }
-        Measured::Refused(r) => {
+        Err(r) => {
             clear(instructions);
             clear(operands);
             clear(words);
-            Answer::Refused(r)
+            Err(r)
         }
     }
 }
@@ -58,20 +53,16 @@ pub fn decode(
 ) -> Answer
     ensures { d.Decoded edition four chunk.now instructions.old operands.old words.old result instructions.new operands.new words.new }
 {
-    match decode_header(chunk, four, edition) {
-        Checked::Passed { version } => {
-            if has_room(chunk.len(), instructions.len(), operands.len(), words.len()) {
-                return decode_body(
-                    chunk,
-                    version,
-                    ceiling(edition),
-                    instructions,
-                    operands,
-                    words,
-                );
-            }
-            Answer::Refused(Refusal::Room)
-        }
-        Checked::Refused(r) => Answer::Refused(r),
+    let version = decode_header(chunk, four, edition)?;
+    if !has_room(chunk.len(), instructions.len(), operands.len(), words.len()) {
+        return Err(Refusal::Room);
     }
+    decode_body(
+        chunk,
+        version,
+        ceiling(edition),
+        instructions,
+        operands,
+        words,
+    )
 }
