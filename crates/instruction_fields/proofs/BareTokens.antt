@@ -2,7 +2,7 @@
 use Prim.Native.Nat.{ℕ, ◌+◌, ◌*◌, ◌/◌, ◌^◌, ◌<◌}
 use mathlib.Core.Path.{◌≡◌, refl, sym, ap, ◌∙◌}
 use mathlib.Core.List.{List, [], ◌∷◌, map}
-use mathlib.Core.Bool.{Bool, true, false, ◌&&◌, ◌||◌}
+use mathlib.Core.Bool.{Bool, true, false, ◌&&◌, ◌||◌, and-false}
 use native.Mathlib.Nat.{mod-add-div}
 use native.Mathlib.Omega.{arith}
 use lib.ListN.{length}
@@ -20,10 +20,6 @@ use Rattle.layouts.specs.declared.Shape.{Shape}
 use Rattle.instruction_fields.specs.Fields.{headed, bare_token, Declared}
 use Rattle.instruction_fields.proofs.Tokens.{head_none}
 use Rattle.instruction_fields.proofs.Heads.{Headed, headed_at, another_kind, class_decides, unchained_head}
-
-and_no : (a : Bool) → (a && false) ≡ false
-and_no true = refl
-and_no false = refl
 
 module _ (t : ℕ) (x : Shape) (l : Declared (code t) x) where
   is_4 : kind_number x.kind ≡ 4
@@ -66,7 +62,7 @@ module _ (t : ℕ) (x : Shape) (l : Declared (code t) x) where
 
     short : long t ≡ false
     unfolding long
-    short = rw unfollowed (and_no (eqb (code t) 145 || eqb (code t) 146))
+    short = rw unfollowed (and-false (eqb (code t) 145 || eqb (code t) 146))
 
     unsized : sized t ≡ false
     unfolding sized

@@ -26,9 +26,6 @@ module _ {ds : List ℕ} {from to at last : ℕ} (q : Rose ds from to at last) (
   unfolding rising
   first = rw (slice-cons at to ds 0 h q.ends, ← ee)
 
-  and-false : (a b c : Bool) → a ≡ false → (a && b && c) ≡ false
-  and-false a b c z = rw z
-
   pub not_risen : extension_type e ≤ last → false ≡ rising 0 (slice from to ds)
   not_risen k = sym (q.same ∙ first ∙ rw (le-ltb last (extension_type e) k))
 

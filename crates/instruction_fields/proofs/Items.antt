@@ -2,7 +2,7 @@
 use Prim.Native.Nat.{ℕ, zero, suc, ◌+◌, ◌%◌, ◌^◌, ◌≤◌, ◌<◌}
 use mathlib.Core.Path.{◌≡◌, refl, sym, ap, ◌∙◌}
 use mathlib.Core.List.{List, [], ◌∷◌, ◌++◌, append-nil}
-use mathlib.Core.Bool.{Bool, true, false, cond, ◌&&◌}
+use mathlib.Core.Bool.{Bool, true, false, cond, ◌&&◌, and_assoc}
 use lib.ListN.{length, take, drop, replicate, length-append}
 use lib.Seq.{length-take-le}
 use native.Mathlib.Omega.{arith}
@@ -16,10 +16,6 @@ use Rattle.format.specs.Instructions.{read_item, read_items}
 use Rattle.format.specs.Rows.{tree_rows, tree_words, parts_rows, parts_words}
 use Rattle.format.proofs.Dwords.{impossible}
 use Rattle.instruction_fields.specs.Fields.{Sum, off, sum, add, total, sum_of}
-
-and_assoc : (a b c : Bool) → (a && b && c) ≡ (a && (b && c))
-and_assoc true b c = refl
-and_assoc false b c = refl
 
 -- the first item's part, and what the others come to
 cons_total : (x : Tree) (g : Got (List Tree)) → total (then (then g (λ ps r. got (x ∷ ps) r)) (λ ps. none_left ps)) ≡ add (tree_rows x) (length (tree_words x)) (op.exact x) (total (then g (λ ps. none_left ps)))

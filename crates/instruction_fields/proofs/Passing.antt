@@ -10,8 +10,9 @@ use native.Mathlib.Omega.{arith}
 use lib.Dec.{eqb, leb, ltb}
 use borrow.Author.Tests.{eqb-true, eqb-false, leb-true, leb-false, ltb-true, ltb-false}
 use Rattle.format.specs.Declarations.{Item, d, small, list}
+use Rattle.format.proofs.Dwords.{impossible}
 use Rattle.layouts.specs.Shapes.{listed}
-use Rattle.std.specs.Prelude.{Some, None}
+use Rattle.std.specs.Prelude.{Some, None, is_some}
 use Rattle.instruction_fields.specs.Places.{dwords_on, small_on, list_on}
 use Rattle.instruction_fields.specs.Fields.{add, sum_of, Passes, to, out, low, all, Listed, unlisted, counted, IsSmall}
 use Rattle.instruction_fields.proofs.Items.{add-zero, dwords_whole, dwords_short, small_whole, small_large, small_none, list_whole, list_short, list_none}
@@ -113,10 +114,11 @@ listed_of (inl e) = subst Listed (sym e) unlisted
 listed_of (inr (inl e)) = subst Listed (sym e) (counted low)
 listed_of (inr (inr e)) = subst Listed (sym e) (counted all)
 
--- ---- a small dword that there may be
-module _ (k : ℕ) (ds : List ℕ) (at : ℕ) where
-  pub no_small_there : k ≡ 0 → IsSmall k ds at true
-  no_small_there z _ h = let a : at + k ≡ at = omega arith in rw (a, z) (stays ds at h)
-
-  pub small_told : k ≤ 1 → (k ≡ 0 → ⊥) → at < length ds → (v : ℕ) → v ≡ get_or ds at 0 → IsSmall k ds at (ltb v 65536)
-  small_told a b l v ev e h = let z : k ≡ 1 = omega arith in rw z (passes_small ds at h l (let y = ltb-true v 65536 e in omega arith))
+-- whether a small dword is there, if there is to be one
+pub small_told : (k : ℕ) (ds : List ℕ) (at : ℕ) → k ≤ 1 → IsSmall k ds at (is_some (small_on k ds at))
+small_told k ds at l e h = go (eqb k 0) refl (ltb at (length ds) && ltb (get_or ds at 0) 65_536) e (small_passes ds at h k l)
+  where
+    go : (a : Bool) → eqb k 0 ≡ a → (b : Bool) → is_some (cond a (Some at) (cond b (Some (at + 1)) None)) ≡ true → Passes (replicate k small) ds at (cond a (Some at) (cond b (Some (at + 1)) None)) → Passes (replicate k small) ds at (Some (at + k))
+    go true ea b e f = let z : at + k ≡ at = (let n = eqb-true k 0 ea in omega arith) in rw z f
+    go false ea true e f = let z : at + k ≡ at + 1 = (let n = one_small ds at h k l ea in omega arith) in rw z f
+    go false ea false e f = impossible (cc)

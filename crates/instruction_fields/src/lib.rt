@@ -298,9 +298,10 @@ pub fn bare(s: Shape, t: u32) -> bool
 }
 
 // Whether a dword is under 65,536, if there is to be one.
+#[tactic(auto, using(crate::proofs::Passing::small_told))]
 pub fn small_at(part: &[u8], at: usize, small: u32) -> bool
     requires { small ≤ 1 }
     ensures { IsSmall small (dwords_of part.now) at result }
 {
-    small == 0 || at < dwords(part) && dword(part, at) < 65536
+    past_small(part, at, small).is_some()
 }

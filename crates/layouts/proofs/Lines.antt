@@ -1,7 +1,7 @@
 -- Whether a code stands in a list, by one comparison for each run of codes; and the count of a code by its line, where a `match` tells.
 use Prim.Native.Nat.{ℕ, zero, suc, ◌+◌, ◌%◌}
 use mathlib.Core.Path.{◌≡◌, refl, sym, ◌∙◌, ap}
-use mathlib.Core.Bool.{Bool, true, false, cond, ◌&&◌, ◌||◌}
+use mathlib.Core.Bool.{Bool, true, false, cond, ◌&&◌, ◌||◌, or_assoc, or-false, or-true}
 use mathlib.Core.List.{List, [], ◌∷◌, ◌++◌}
 use native.Mathlib.Nat.{add-suc, suc-add}
 use native.Mathlib.Omega.{arith}
@@ -14,14 +14,6 @@ use Rattle.std.specs.Prelude.{None}
 use Rattle.format.specs.Counts.{numbers, within, operand_counts, line_of, operand_count}
 use Rattle.format.proofs.Dwords.{impossible}
 use Rattle.layouts.specs.Shapes.{counted}
-
-or_assoc : (a b c : Bool) → ((a || b) || c) ≡ (a || (b || c))
-or_assoc true b c = refl
-or_assoc false b c = refl
-
-or_false : (a : Bool) → (a || false) ≡ a
-or_false true = refl
-or_false false = refl
 
 -- ---- a code is one of a run
 first : (c a n : ℕ) (e : Bool) → eqb c a ≡ e → (e || (leb (suc a) c && ltb c (suc a + n))) ≡ (leb a c && ltb c (a + suc n))
@@ -89,7 +81,7 @@ among_span r c = go (eqb r.1 1) refl
 
 folded : (l : List (ℕ × ℕ)) (b : Bool) (c : ℕ) → compared b c l ≡ (b || within c (codes l))
 unfolding within
-folded [] b c = sym (or_false b)
+folded [] b c = sym (or-false b)
 folded (r ∷ l) b c =
     folded l (b || among r c) c
     ∙ or_assoc b (among r c) (within c (codes l))
@@ -126,11 +118,7 @@ or_later : (k : ℕ) (ks : List ℕ) (c : ℕ) → OneOf (k ∷ ks) c → within
 unfolding within
 or_later k [] c e = rw (eq-eqb c k e)
 or_later k (j ∷ ks) c (inl e) = rw (eq-eqb c k e)
-or_later k (j ∷ ks) c (inr r) = rw (or_later j ks c r) (or_true (eqb c k))
-  where
-    or_true : (b : Bool) → (b || true) ≡ true
-    or_true true = refl
-    or_true false = refl
+or_later k (j ∷ ks) c (inr r) = rw (or_later j ks c r) (or-true (eqb c k))
 
 pub a_key : (ks : List ℕ) (c : ℕ) → OneOf ks c → within c ks ≡ true
 a_key [] c h = absurd h

@@ -2,7 +2,7 @@
 use Prim.Native.Nat.{ℕ, zero, suc, ◌+◌, ◌*◌, ◌-◌, ◌/◌, ◌%◌, ◌^◌, ◌<◌, ◌≤◌}
 use mathlib.Core.Path.{◌≡◌, refl, sym, ap, ◌∙◌}
 use mathlib.Core.List.{map}
-use mathlib.Core.Bool.{Bool, true, false, ◌&&◌}
+use mathlib.Core.Bool.{Bool, true, false, ◌&&◌, and-true}
 use native.Mathlib.Omega.{arith}
 use lib.ListN.{get_or}
 use lib.Dec.{eqb, ltb}
@@ -17,10 +17,6 @@ use Rattle.tokens.specs.Low.{allowed_bits}
 use Rattle.tokens.specs.Usuals.{stray_bits}
 use Rattle.tokens.proofs.Fields.{counted, form_small}
 use Rattle.tokens.proofs.Low.{exact_by_parts}
-
-and-true : (a : Bool) → (a && true) ≡ a
-and-true true = refl
-and-true false = refl
 
 -- the entry of a dword's lowest four bits
 entries : map (λ k. get_or STRAYS k 0) (numbers 16 0) ≡ map stray_bits (numbers 16 0)
