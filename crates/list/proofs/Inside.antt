@@ -4,8 +4,9 @@ use mathlib.Core.Path.{◌≡◌, sym, ◌∙◌}
 use mathlib.Core.List.{List}
 use lib.ListN.{length, drop, length-append}
 use native.Mathlib.Omega.{arith}
-use Rattle.format.specs.declared.Answer.{Answer}
-use Rattle.format.specs.declared.Answer.TheVariants.{Accepted}
+use Rattle.std.specs.Prelude.{Result, Ok}
+use Rattle.format.specs.declared.Accepted.{Accepted}
+use Rattle.format.specs.declared.Refusal.{Refusal}
 use Rattle.format.specs.Instructions.{Instruction}
 use Rattle.format.specs.Refusals.{Outcome, accepted, after, pools_after, Pools}
 use Rattle.format.specs.Rows.{instruction_rows}
@@ -19,7 +20,7 @@ held {l = l} e p =
     let rows = instruction_rows 8 0 0 l in
     rw e (omega (arith, length-append rows (drop (length rows) p.instructions), rows_length 8 0 0 l))
 
-pub rows_inside : {e four : ℕ} {chunk is os ws : List ℕ} {a : Answer} {is' os' ws' : List ℕ} → Decoded e four chunk is os ws a is' os' ws' → {v i o w : ℕ} → a ≡ Accepted v i o w → 16 * i ≤ length is'
+pub rows_inside : {e four : ℕ} {chunk is os ws : List ℕ} {a : Result Accepted Refusal} {is' os' ws' : List ℕ} → Decoded e four chunk is os ws a is' os' ws' → {told : Accepted} → a ≡ Ok told → 16 * told.instructions ≤ length is'
 rows_inside {is = is} {os = os} {ws = ws} d x =
     let r = answer_read _ (sym d.answered ∙ x) in
     rw d.instructions (omega (arith, held r.is (lent is os ws), r.instructions))

@@ -1,9 +1,9 @@
 // The listing of a chunk that comes on standard input.
 #![tactic(auto)]
 
-ghost use Rattle.std.specs.Prelude.{◌+◌, ◌*◌, ◌≤◌, IfOk, length};
+ghost use Rattle.std.specs.Prelude.{◌*◌, ◌≤◌, IfOk, length};
 
-use format::{Answer, Refusal};
+use format::Refusal;
 use std::io;
 use std::io::Read;
 
@@ -13,34 +13,14 @@ const SHEX: u32 = 0x5845_4853;
 // The edition that knows every code.
 const NEWEST: u32 = 3;
 
-// Prints a line with words 0 to 3 of the row at a place: byte offset, dwords, code and kind.
-fn print_row(rt: &impl Print, rows: &[u32], at: usize) -> io::Result<()>
-    requires { at + 16 ≤ length rows.now }
+// Prints what was accepted: a line for each row with its words 0 to 3, byte offset, dwords, code and kind, and then how many rows there are.
+fn print_accepted(rt: &impl Print, instructions: &[u32], count: u32) -> io::Result<()>
+    requires { 16 * count ≤ length instructions.now }
 {
-    println!(rt;
-        "{} {} {} {}",
-        rows[at],
-        rows[at + 1],
-        rows[at + 2],
-        rows[at + 3]
-    )
-}
-
-// Prints so many rows, from the first on.
-fn print_rows(rt: &impl Print, rows: &[u32], count: usize) -> io::Result<()>
-    requires { 16 * count ≤ length rows.now }
-{
-    for i in 0..count {
-        print_row(rt, rows, 16 * i)?;
+    let (rows, _) = instructions.as_chunks::<16>();
+    for row in &rows[..count as usize] {
+        println!(rt; "{} {} {} {}", row[0], row[1], row[2], row[3])?;
     }
-    Ok(())
-}
-
-// Prints what was accepted: its rows and their count.
-fn print_accepted(rt: &impl Print, rows: &[u32], count: u32) -> io::Result<()>
-    requires { 16 * count ≤ length rows.now }
-{
-    print_rows(rt, rows, count as usize)?;
     println!(rt; "accepted {count}")
 }
 
@@ -59,13 +39,8 @@ fn print_chunk(
     words: &mut [u32],
 ) -> io::Result<()> {
     match decode::decode(chunk, SHEX, NEWEST, instructions, operands, words) {
-        Answer::Accepted {
-            version: _,
-            instructions: count,
-            operands: _,
-            words: _,
-        } => print_accepted(rt, instructions, count),
-        Answer::Refused(r) => print_refused(rt, r),
+        Ok(accepted) => print_accepted(rt, instructions, accepted.instructions),
+        Err(r) => print_refused(rt, r),
     }
 }
 
