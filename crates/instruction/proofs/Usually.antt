@@ -25,8 +25,8 @@ use Rattle.operand.proofs.Seen.{Seen, operand_seen, lost}
 use Rattle.operand.proofs.Fronts.{Opened, opened, front_read, low_opened, low_flat, leaf_short, leaf_read, leaf_is, tree_is, operand_end}
 use Rattle.operand.proofs.FlatTrees.{measured_short, measured_flat}
 use Rattle.instruction.specs.declared.Surplus.{Surplus}
-use Rattle.instruction.specs.Measure.{Ran, Run, surplus}
-use Rattle.instruction.proofs.Runs.{Reading, begin, turn, finished, stopped}
+use Rattle.instruction.specs.Measure.{Run, surplus}
+use Rattle.instruction.proofs.Runs.{Reading, begin, turn, stopped}
 
 -- ---- an operand at a place that is as long as its dword says, if it fits
 pub record Long (ds : List ℕ) (at k : ℕ) : Type 0 where
@@ -198,10 +198,6 @@ module _ {k : ℕ} {ds : List ℕ} {from i at more skipped : ℕ} {exact : Bool}
   lost_past (inside q e) h l = stopped q h (operand_end 64 ds at l)
   lost_past (outside a b c r) h l = r
 
-  pub lost_off : Passing k ds from i at more skipped exact → length ds < at → Run k ds from None
-  lost_off (inside q e) l = absurd (omega (arith, q.within))
-  lost_off (outside a b c r) l = r
-
   pub lost_deep : Passing k ds from i at more skipped exact → i < k → operand 64 (drop at ds) ≡ malformed → Run k ds from None
   lost_deep (inside q e) h z = stopped q h z
   lost_deep (outside a b c r) h z = r
@@ -241,22 +237,3 @@ module _ {k : ℕ} {ds : List ℕ} {from i at more skipped : ℕ} {exact : Bool}
             let w = some_row x.seen in
             let a : i + more + x.rows ≡ i + 1 + (more + s.rows) = omega (arith, w, x.more) in
             inside (rw a at (turn q h x.seen)) (omega (arith, x.seen, w, x.more, x.skipped, q.begun))
-
-  -- all are passed
-  module _ (p : Passing k ds from i at more skipped exact) (h : k ≤ i) (l : at ≤ length ds) where
-    pub counted : (from ≤ at) × (k + more + skipped ≤ at - from)
-    counted = go p
-      where
-        go : Passing k ds from i at more skipped exact → (from ≤ at) × (k + more + skipped ≤ at - from)
-        go (inside q e) = (q.begun, omega (arith, q.some))
-        go (outside a b c s) = absurd (omega arith)
-
-    pub passed : Ran k ds from (record { rows = k + more; words = at - from - (k + more) - skipped; end = at; exact = exact })
-    passed = go p
-      where
-        go : Passing k ds from i at more skipped exact → Ran k ds from (record { rows = k + more; words = at - from - (k + more) - skipped; end = at; exact = exact })
-        go (outside a b c s) = absurd (omega arith)
-        go (inside {words = words} q e) =
-            let a : i + more ≡ k + more = omega (arith, q.some) in
-            let b : words ≡ at - from - (k + more) - skipped = omega (arith, q.some) in
-            rw (a, b) at (finished q h)

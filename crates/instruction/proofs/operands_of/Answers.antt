@@ -4,7 +4,7 @@ use native.Mathlib.Omega.{arith}
 use lib.ListN.{length}
 use Rattle.format.specs.Dwords.{dwords_of}
 use Rattle.format.proofs.Dwords.{length_dwords}
-use Rattle.instruction.proofs.Usually.{start, long, lost_past, lost_off, lost_deep, past_usual, surpassed, surplus_lost, room, past_other, passed}
+use Rattle.instruction.proofs.Usually.{start, long, lost_past, lost_deep, past_usual, surpassed, surplus_lost, room, past_other}
 use Rattle.instruction.proofs.operands_of.Goals as goal
 use Rattle.instruction.proofs.operands_of.Goals.{in-Some, in-None+in_ok-other-in-None}
 
@@ -42,9 +42,3 @@ loop-i-preserved c =
       | in-Some w ↦ rw (w.more-is, w.skipped-is, w.end-is, w.exact-is) (past_usual c.loop-i.invariant (omega arith) there _ (long (dwords_of c.args.part.now) c.loop-i.end there _ c.dword.ensures _ w.in-Some.ensures))
       | in-None+in_ok-other-in-None w ↦ rw (w.more-is, w.skipped-is, w.end-is, w.exact-is) (past_other c.loop-i.invariant (omega arith) there (surpassed _ _ (omega arith) _ w.in_ok-other-in-None.ensures))
     ]
-
-pub returns-then-n-end-2 : goal.returns-then-n-end-2
-returns-then-n-end-2 c = lost_off c.loop-i.invariant (omega (arith, c.dwords-n.ensures, c.if-n-end-2.true))
-
-pub returns : goal.returns
-returns c = passed c.loop-i.invariant (omega arith) (omega (arith, c.dwords-n.ensures, c.if-n-end-2.false))
