@@ -1,7 +1,7 @@
 -- Whether a code stands in a list, by one comparison for each run of codes; and the count of a code by its line, where a `match` tells.
 use Prim.Native.Nat.{ℕ, zero, suc, ◌+◌, ◌%◌}
 use mathlib.Core.Path.{◌≡◌, refl, sym, ◌∙◌, ap}
-use mathlib.Core.Bool.{Bool, true, false, cond, ◌&&◌, ◌||◌, or_assoc, or-false, or-true}
+use mathlib.Core.Bool.{Bool, true, false, cond, ◌&&◌, ◌||◌, or_assoc, or-false}
 use mathlib.Core.List.{List, [], ◌∷◌, ◌++◌}
 use native.Mathlib.Nat.{add-suc, suc-add}
 use native.Mathlib.Omega.{arith}
@@ -112,17 +112,6 @@ among_passing p c h (x ∷ l) = go (p x) refl (eqb c x) refl (among_passing p c 
     go true k e q r = rw (q, r)
     go false k true q r = let z : p x ≡ true = rw (← eqb-true c x q) h in impossible (cc)
     go false k false q r = r
-
--- a key of a `match` is a member of the keys
-or_later : (k : ℕ) (ks : List ℕ) (c : ℕ) → OneOf (k ∷ ks) c → within c (k ∷ ks) ≡ true
-unfolding within
-or_later k [] c e = rw (eq-eqb c k e)
-or_later k (j ∷ ks) c (inl e) = rw (eq-eqb c k e)
-or_later k (j ∷ ks) c (inr r) = rw (or_later j ks c r) (or-true (eqb c k))
-
-pub a_key : (ks : List ℕ) (c : ℕ) → OneOf ks c → within c ks ≡ true
-a_key [] c h = absurd h
-a_key (k ∷ ks) c h = or_later k ks c h
 
 pub no_key : (ks : List ℕ) (c : ℕ) → (OneOf ks c → ⊥) → within c ks ≡ false
 unfolding within

@@ -1,12 +1,12 @@
 // The layout of every code: operand counts, the table of declarations, field bits.
 #![tactic(auto)]
 
-ghost use Rattle.std.specs.Prelude.{◌≡◌, ◌<◌, ◌≤◌, ltb};
+ghost use Rattle.std.specs.Prelude.{◌≡◌, ◌≤◌, ltb};
 ghost use Rattle.std.proofs.Math.Option.{none, some};
 ghost use Rattle.format.specs.Counts.{operand_count};
 ghost use Rattle.format.specs.Declarations.{field_in, in_bounds};
 ghost use Rattle.layouts.specs.Shapes.{kind_number, counted, field_of, Sound, Laid};
-ghost use Rattle.layouts.specs.Table.{row_of, Right, Declares, shape_of, plain_shape, width_of};
+ghost use Rattle.layouts.specs.Table.{row_of, Declares, shape_of, plain_shape, width_of};
 
 // What a code is. Rows of the reading hold the number of its kind.
 #[derive(Clone, Copy, PartialEq, Eq)]
@@ -174,22 +174,13 @@ fn row_of(code: u32) -> Option<usize>
     }
 }
 
-// A row of the table, which tells its code's layout.
-#[tactic(auto, using(crate::proofs::Table::rule))]
-fn row_at(row: usize) -> u32
-    requires { row < 40 }
-    ensures { Right row result }
-{
-    DECLARATIONS[row]
-}
-
 // A declaration's row of the table, if the code declares.
-#[tactic(auto, using(crate::proofs::Table::row_within, crate::proofs::Table::declares_row))]
+#[tactic(auto, using(crate::proofs::Table::row_within))]
 pub fn declaration(code: u32) -> Option<u32>
     ensures { Declares code result }
 {
     let row = row_of(code)?;
-    Some(row_at(row))
+    Some(DECLARATIONS[row])
 }
 
 // The shape that a row tells.
@@ -254,14 +245,13 @@ pub fn counted_layout(code: u32, n: u32) -> Shape
     plain(Kind::Counted, counted_width(code), n, true)
 }
 
-// The layout of a code without a count: a declaration, a phase, custom data or an opaque one. It has one operand at most. By its row and not
-// by `declaration`, which would make it small enough to be copied into its callers, and them slower.
+// The layout of a code without a count: a declaration, a phase, custom data or an opaque one. It has one operand at most.
 pub fn uncounted_layout(code: u32) -> Shape
     requires { operand_count code ≡ none }
     ensures { Laid code result × (result.operands ≤ 1) }
 {
-    if let Some(row) = row_of(code) {
-        return declared(row_at(row));
+    if let Some(d) = declaration(code) {
+        return declared(d);
     }
     match code {
         53 => plain(Kind::CustomData, 5, 0, true),
