@@ -1,4 +1,4 @@
--- The row of a counted instruction whose token is plain.
+-- The rows of a counted instruction whose token is plain, and of a declaration that is not in the long form.
 use Prim.Native.Nat.{ℕ, ◌^◌, ◌<◌}
 use mathlib.Core.Path.{◌≡◌, refl, sym, ap, ◌∙◌}
 use mathlib.Core.List.{List, [], ◌∷◌}
@@ -11,12 +11,13 @@ use lib.ListN.{drop}
 use lib.Seq.{slice}
 use borrow.Author.Tests.{ne_eqb}
 use Rattle.format.specs.Dwords.{bits, got, chain}
-use Rattle.format.specs.Framing.{code}
-use Rattle.format.specs.Counts.{within, ◌‥◌, operand_count, of_type, type_bits}
-use Rattle.format.specs.Declarations.{Item, tail, Field, no, from, declarations, Layout, by_count, in_table, layout}
+use Rattle.format.specs.Framing.{code, long}
+use Rattle.format.specs.Counts.{numbers, within, line_of, ◌‥◌, operand_count, of_type, type_bits}
+use Rattle.format.specs.Declarations.{Item, tail, Field, no, from, declarations, Layout, by_count, in_table, layout, field_in}
 use Rattle.format.specs.Instructions.{read_head, fields_of, extensions}
+use Rattle.format.proofs.Each.{absent}
 use Rattle.layouts.specs.declared.Shape.{Shape}
-use Rattle.layouts.specs.Shapes.{Laid, kind_number, meant}
+use Rattle.layouts.specs.Shapes.{Laid, kind_number, meant, field_of}
 use Rattle.instruction_fields.specs.Fields.{plain_token}
 use Rattle.instruction_fields.proofs.Counted.{laid, short, chain_head, unfollowed, field_none, test_is}
 use Rattle.instruction_write.specs.Writes.{row_for}
@@ -72,3 +73,20 @@ module _ (t : ℕ) (s : Shape) (la : Laid (code t) s) (counted : kind_number s.k
     pub plain_row_at : (at k l r j w m : ℕ) → k ≡ l
         → at ∷ k ∷ code t ∷ 1 ∷ bits 13 13 t ∷ bits 18 18 t ∷ bits 19 22 t ∷ 0 ∷ 0 ∷ 0 ∷ 0 ∷ 0 ∷ r ∷ j ∷ w ∷ m ∷ [] ≡ row_for (meant s) t (slice 1 end ds) at l r j w m
     plain_row_at at k l r j w m e = plain_row_is t count.0 count.1 p small other at k l r j w m e ∙ (λ u. row_for (sym la.meaning u) t (sym bare u) at l r j w m)
+
+-- the codes that have a test bit
+abbrev tests : List ℕ
+tests = 3 ∷ 5 ∷ 8 ∷ 13 ∷ 31 ∷ 63 ∷ []
+
+-- a declaration's code has none
+untested : (c : ℕ) → (layout c).kind ≡ 4 → within c tests ≡ false
+unfolding layout numbers within in_table operand_count line_of
+untested c e = absent (λ k. eqb (layout k).kind 1) tests refl c (ap (λ (k : ℕ). eqb k 1) e)
+
+-- its row, from the token's field
+pub declared_row_at : (t : ℕ) (s : Shape) → Laid (code t) s → kind_number s.kind ≡ 4 → long t ≡ false → (e : List ℕ) (at k l r j w m x : ℕ) → k ≡ l → x ≡ field_in (field_of s) t
+    → at ∷ k ∷ code t ∷ 4 ∷ 0 ∷ 0 ∷ 0 ∷ x ∷ 0 ∷ 0 ∷ 0 ∷ 0 ∷ r ∷ j ∷ w ∷ m ∷ [] ≡ row_for (meant s) t e at l r j w m
+unfolding row_for fields_of extensions type_bits of_type
+declared_row_at t s la four short e at k l r j w m x ek ex =
+    let n : within (code t) tests ≡ false = untested (code t) (sym (ap (λ (y : Layout). y.kind) la.meaning) ∙ four) in
+    rw (ek, ex, four, n, short)

@@ -13,7 +13,7 @@ ghost use Rattle.instruction_write.specs.Writes as w;
 
 use framing::long;
 use instruction_fields::{fields_of, head, plain};
-use layouts::{Kind, Shape, counted_layout, operand_count, uncounted_layout};
+use layouts::{Kind, Shape, counted_layout, field_of, operand_count, uncounted_layout};
 use operand_rows::{Sums, copy, put_row};
 use tokens::{dword, dwords};
 
@@ -251,7 +251,8 @@ impl<'a> Source<'a> {
         }
     }
 
-    // The same. Most instructions are counted and have a plain token, and their row is soon made; but a plain token of code 190 may have a field.
+    // The same. Most instructions are counted and have a plain token, or declare and are not in the long form: their row is soon made. But a
+    // plain token of code 190 may have a field.
     fn soon_row(&self, s: Shape, end: usize, words: usize) -> Row
         requires { Laid (code self.now.token) s × w.RowReady s (dwords_of self.now.part.now) end words × (ins.read_head (meant s) self.now.token (drop 1 (dwords_of self.now.part.now)) ≡ got (slice 1 end (dwords_of self.now.part.now)) (drop end (dwords_of self.now.part.now))) }
         ensures { w.listed result ≡ w.row_for (meant s) self.now.token (slice 1 end (dwords_of self.now.part.now)) self.now.place.offset (length (dwords_of self.now.part.now)) self.now.place.row s.operands self.now.place.word words }
@@ -263,6 +264,10 @@ impl<'a> Source<'a> {
                 test: t / 0x4_0000 % 2,
                 precise: t / 0x8_0000 % 16,
                 ..self.row(1, s.operands, words)
+            },
+            Kind::Declaration if !long(t) => Row {
+                field: field_of(s, t),
+                ..self.row(4, s.operands, words)
             },
             _ => self.known_row(s, end, words),
         }
