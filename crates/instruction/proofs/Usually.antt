@@ -116,7 +116,7 @@ module _ (ds : List ℕ) (at : ℕ) (l : at + 1 < length ds) (t : ℕ) (et : t �
       let g : Some (at + 2) ≡ ends (at + 1) (chain true (drop (at + 1) ds)) = rw two at (ended (begun ds (at + 1) refl) l ex (sym once.last) refl) in
       let w = chain_passed true ds (at + 1) (at + 2) (omega arith) g in
       let y : true ≡ op.exact_extension (slice (at + 1) (at + 2) ds) = rw (slice-cons (at + 1) (at + 2) ds 0 (omega arith) w.within, next, slice_empty (at + 2) ds, ← ex) (sym once.good) in
-      opened 64 ds at (t, at + 2, true) (front_read 64 ds at (λ z. omega arith) (omega arith) t et true followed (at + 2) w true true true (sym once.sharp) y refl)
+      opened 64 ds at (t, at + 2, true) (front_read 64 ds at (λ z. omega arith) (omega arith) t et true followed (at + 2) g true true true (sym once.sharp) y refl)
 
   flat : Flat t
   flat = omega (arith, once.top)
@@ -189,10 +189,6 @@ pub start : (k : ℕ) (ds : List ℕ) (from : ℕ) → from ≤ length ds → Pa
 start k ds from h = inside (begin k ds from h) (omega arith)
 
 module _ {k : ℕ} {ds : List ℕ} {from i at more skipped : ℕ} {exact : Bool} where
-  pub bounded : Passing k ds from i at more skipped exact → at ≤ length ds + 5
-  bounded (inside q e) = omega (arith, q.within)
-  bounded (outside a b c r) = b
-
   -- past the end the operands are lost
   pub lost_past : Passing k ds from i at more skipped exact → i < k → length ds ≤ at → Run k ds from None
   lost_past (inside q e) h l = stopped q h (operand_end 64 ds at l)

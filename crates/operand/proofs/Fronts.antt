@@ -77,8 +77,9 @@ module _ (left : ℕ) (ds : List ℕ) (at : ℕ) where
     pub front_passed : (b : ℕ) → Some b ≡ ends (at + 1) (chain m (drop (at + 1) ds)) → Passed m ds (at + 1) b
     front_passed b e = passed m ds (at + 1) b (omega arith) e
 
-    pub front_read : (b : ℕ) → Passed m ds (at + 1) b → (x y z : Bool) → x ≡ exact_dword t → y ≡ exact_extension (slice (at + 1) b ds) → z ≡ (x && y) → Some (t, b, z) ≡ fronted at (front left (drop at ds))
-    front_read b w x y z ex ey ez =
+    pub front_read : (b : ℕ) → Some b ≡ ends (at + 1) (chain m (drop (at + 1) ds)) → (x y z : Bool) → x ≡ exact_dword t → y ≡ exact_extension (slice (at + 1) b ds) → z ≡ (x && y) → Some (t, b, z) ≡ fronted at (front left (drop at ds))
+    front_read b e x y z ex ey ez =
+        let w = front_passed b e in
         let q : b ≡ at + 1 + length (slice (at + 1) b ds) = omega (arith, length-slice (at + 1) b ds w.within, w.from) in
         let eq : z ≡ (exact_dword t && exact_extension (slice (at + 1) b ds)) = cc in
         (λ i. Some (t, q i, eq i)) ∙ sym (ap (fronted at) (front_some h l) ∙ rw (← et, ← em, w.is))
@@ -188,6 +189,5 @@ module _ (left : ℕ) (ds : List ℕ) (at : ℕ) where
   pub low_opened : (left ≡ 0 → ⊥) → at < length ds → (t : ℕ) → t ≡ get_or ds at 0 → t < 2 ^ 22 → (x : Bool) → x ≡ exact_dword t → Opened left ds at t (at + 1) x
   unfolding exact_extension
   low_opened h l t et q x ex =
-      let w = no_chain ds (at + 1) (omega arith) in
       opened left ds at (t, at + 1, x)
-      (front_read left ds at h l t et false (sym (low_ends t q)) (at + 1) w x true x ex (sym (ap exact_extension (slice_empty (at + 1) ds))) (sym (and-true x)))
+      (front_read left ds at h l t et false (sym (low_ends t q)) (at + 1) (not_begun ds (at + 1) refl) x true x ex (sym (ap exact_extension (slice_empty (at + 1) ds))) (sym (and-true x)))

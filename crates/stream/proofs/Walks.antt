@@ -116,12 +116,12 @@ module _ {c : ℕ} {m : Bool} {ds : List ℕ} {s : Walk} (w : Walking c m ds s) 
   pub zero_off : n ≡ 0 → {p : ℕ} → p ≡ 4 * s.at → Steps c m ds s.at (Err (ZeroLength p))
   zero_off z q = ap (λ (k : ℕ). Err (ZeroLength k)) q ∙ at_zero c m s ∙ ap (λ (f : Framed). onward c m f s) (sym (frame_zero ds s.at n h e z)) ∙ w.same
 
-  pub past_off : 0 < n → length ds - s.at < n → {p : ℕ} → p ≡ 4 * s.at → Steps c m ds s.at (Err (PastEnd p))
-  past_off z k q = ap (λ (k : ℕ). Err (PastEnd k)) q ∙ at_past c m s ∙ ap (λ (f : Framed). onward c m f s) (sym (frame_past ds s.at n h e z k)) ∙ w.same
+  pub past_off : (n ≡ 0 → ⊥) → {d : ℕ} → d ≡ length ds → d - s.at < n → {p : ℕ} → p ≡ 4 * s.at → Steps c m ds s.at (Err (PastEnd p))
+  past_off z ed k q = ap (λ (k : ℕ). Err (PastEnd k)) q ∙ at_past c m s ∙ ap (λ (f : Framed). onward c m f s) (sym (frame_past ds s.at n h e (omega arith) (omega arith))) ∙ w.same
 
-  module _ (z : 0 < n) (k : n ≤ length ds - s.at) where
+  module _ (z : n ≡ 0 → ⊥) {d : ℕ} (ed : d ≡ length ds) (k : n ≤ d - s.at) where
     here : onward c m (instruction (slice s.at (s.at + n) ds) (frame (length ds) (drop (s.at + n) ds))) s ≡ measured (passes c m ds)
-    here = ap (λ (f : Framed). onward c m f s) (sym (frame_next ds s.at n h e z k)) ∙ w.same
+    here = ap (λ (f : Framed). onward c m f s) (sym (frame_next ds s.at n h e (omega arith) (omega arith))) ∙ w.same
 
     long : s.at + n ≡ s.at + length (slice s.at (s.at + n) ds)
     long = omega (arith, length-slice s.at (s.at + n) ds (omega arith))

@@ -18,7 +18,7 @@ pub exact_extensions-requires : goal.exact_extensions-requires
 exact_extensions-requires c = let a = c.args in let w = front_passed a.left (dwords_of a.part.now) a.at c.if-left-eq0.false (omega (arith, c.dwords.ensures)) _ c.dword-token.ensures _ c.follows.ensures _ c.in_ok-body.ensures in (w.from, w.within)
 
 pub invariant_of-result : goal.invariant_of-result
-invariant_of-result c = let a = c.args in let w = front_passed a.left (dwords_of a.part.now) a.at c.if-left-eq0.false (omega (arith, c.dwords.ensures)) _ c.dword-token.ensures _ c.follows.ensures _ c.in_ok-body.ensures in record { stands = (opened a.left (dwords_of a.part.now) a.at _ (front_read a.left (dwords_of a.part.now) a.at c.if-left-eq0.false (omega (arith, c.dwords.ensures)) _ c.dword-token.ensures _ c.follows.ensures _ w _ _ _ c.exact_dword.ensures c.exact_extensions.ensures refl)).stands }
+invariant_of-result c = let a = c.args in record { stands = (opened a.left (dwords_of a.part.now) a.at _ (front_read a.left (dwords_of a.part.now) a.at c.if-left-eq0.false (omega (arith, c.dwords.ensures)) _ c.dword-token.ensures _ c.follows.ensures _ c.in_ok-body.ensures _ _ _ c.exact_dword.ensures c.exact_extensions.ensures refl)).stands }
 
 pub returns-clause-told : goal.returns-clause-told
-returns-clause-told c = let a = c.args in let w = front_passed a.left (dwords_of a.part.now) a.at c.if-left-eq0.false (omega (arith, c.dwords.ensures)) _ c.dword-token.ensures _ c.follows.ensures _ c.in_ok-body.ensures in front_read a.left (dwords_of a.part.now) a.at c.if-left-eq0.false (omega (arith, c.dwords.ensures)) _ c.dword-token.ensures _ c.follows.ensures _ w _ _ _ c.exact_dword.ensures c.exact_extensions.ensures refl
+returns-clause-told c = let a = c.args in front_read a.left (dwords_of a.part.now) a.at c.if-left-eq0.false (omega (arith, c.dwords.ensures)) _ c.dword-token.ensures _ c.follows.ensures _ c.in_ok-body.ensures _ _ _ c.exact_dword.ensures c.exact_extensions.ensures refl
