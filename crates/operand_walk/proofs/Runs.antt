@@ -5,7 +5,7 @@ use Rattle.format.proofs.Dwords.{impossible}
 use Rattle.operand_deep.specs.Confirm.{confirm}
 use Rattle.operand_deep.specs.Walks.{sized, walked, there, row_at}
 use Rattle.operand_deep.proofs.Fields as f
-use Rattle.operand_walk.specs.Walks.{Lone, Stands, Run, empty, next, IsRun, Pointed}
+use Rattle.operand_walk.specs.Walks.{Lone, Stands, Run, empty, next, IsRun, Running, Pointed}
 use Rattle.operand_walk.specs.declared.Ran.{Ran}
 
 abbrev pub ran : ℕ → ℕ → Ran
@@ -15,14 +15,7 @@ ran e y = record { rows = e; dwords = y }
 number_15 : (rs : List ℕ) (r : ℕ) {q : List ℕ} → q ≡ row_at r rs → at 15 (drop (16 * r) rs) ≡ at 15 q
 number_15 rs r e = get_or-drop (16 * r) rs 15 0 ∙ sym (f.row_at rs (16 * r) 15 (lit< tt)) ∙ sym (ap (at 15) e)
 
--- ---- i operands have been walked, up to the word v, if that is a dword; x tells how many of them have two rows, and their dwords that are neither words nor an operand's first
-pub record Running (rs : List ℕ) (r w i v : ℕ) (x : Ran) : Type 0 where
-  pub two_rows : x.rows ≤ i
-  pub words_from : w ≤ v
-  pub words_to : v ≤ w + 4 * i
-  pub few : x.dwords ≤ 2 * i
-  pub runs : v < 2 ^ 32 → (left : ℕ) (ws : List ℕ) → v ≤ length ws → Run (suc (suc left)) rs ws r w i (i + x.rows) v (i + (v - w) + x.dwords)
-
+-- ---- so many operands have been walked
 pub begin : (rs : List ℕ) (r w : ℕ) → Running rs r w 0 w (ran 0 0)
 begin rs r w =
     let z : 0 ≡ 0 + (w - w) + 0 = omega arith in

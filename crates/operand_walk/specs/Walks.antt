@@ -5,6 +5,7 @@ use Rattle.format.specs.Encoder.{at, extension_of}
 use Rattle.operand_deep.specs.Confirm.{confirm}
 use Rattle.operand_deep.specs.Walks.{sized, walked, there, row_at}
 use Rattle.operand_walk.specs.declared.Ran.{Ran}
+use Rattle.operand_walk.specs.declared.Passed.{Passed}
 
 -- ---- an operand that stands alone, by its row, which is in front
 -- its only row, with no rows for a second and a third index
@@ -85,6 +86,19 @@ pub record IsRun (rs : List ℕ) (r w k end : ℕ) (x : Ran) : Type 0 where
   pub few : x.dwords ≤ 2 * k
   pub two_rows : x.rows ≤ k
   pub runs : (left : ℕ) (ws : List ℕ) → length ws ≡ end → Run (suc (suc left)) rs ws r w k (k + x.rows) past (k + (past - w) + x.dwords)
+
+-- i operands have been walked, up to the word v, if that is a dword; x is as in IsRun
+pub record Running (rs : List ℕ) (r w i v : ℕ) (x : Ran) : Type 0 where
+  pub two_rows : x.rows ≤ i
+  pub words_from : w ≤ v
+  pub words_to : v ≤ w + 4 * i
+  pub few : x.dwords ≤ 2 * i
+  pub runs : v < 2 ^ 32 → (left : ℕ) (ws : List ℕ) → v ≤ length ws → Run (suc (suc left)) rs ws r w i (i + x.rows) v (i + (v - w) + x.dwords)
+
+-- of k operands so many are walked, which have one row each, and no dwords but words and an operand's first
+pub record IsPassed (rs : List ℕ) (r w k : ℕ) (p : Passed) : Type 0 where
+  pub within : p.count ≤ k
+  pub running : Running rs r w p.count p.word (record { rows = 0; dwords = 0 })
 
 -- ---- an operand of two rows, whose last index is the operand of the second row
 -- o dwords before the operand of an index: its representation is 2 or 3, times a unit, and x tells the place of the dword, if there is one

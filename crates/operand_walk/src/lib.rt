@@ -16,12 +16,20 @@ pub struct Ran {
     pub dwords: usize,
 }
 
-// Counts the selections that a form has: none if it is no form.
+// How many operands are passed, and the word behind theirs.
+#[derive(Clone, Copy)]
+struct Passed {
+    count: usize,
+    word: usize,
+}
+
+// Counts the selections that a form has: none if it is no form. Each form has a line of its own, which makes a table of them.
 fn selections(form: u32) -> u64
     ensures { result ≡ slice_index (1 ∷ 1 ∷ 16 ∷ 256 ∷ 4 ∷ []) form }
 {
     match form {
-        0 | 1 => 1,
+        0 => 1,
+        1 => 1,
         2 => 16,
         3 => 256,
         4 => 4,
@@ -46,8 +54,7 @@ fn extended(m: u32) -> u32
     u32::from(m != 0)
 }
 
-// Tells whether a row is its operand's only one, with no row for a second or third index. That is asked once of a row, before
-// its ways part.
+// Tells whether a row is its operand's only one, with no row for a second or third index.
 fn common(row: &[u32; 16]) -> bool
     ensures { result ≡ true → w.Common row.now }
 {
@@ -393,21 +400,40 @@ fn mixed(operands: &[u32], row: usize, word: usize, count: usize, end: usize) ->
     Some(ran)
 }
 
-// Walks so many operands, one after the other, whose words are before an end. The words only grow, so that all of them are
-// dwords where the last is. From the first unusual row on `mixed` walks, which keeps it out of this loop.
-pub fn run(operands: &[u32], row: usize, word: usize, count: usize, end: usize) -> Option<Ran>
-    requires { (count ≤ length operands.now / 16 - row) × (count ≤ 16) × (end < 2 ^ 32) × (word ≤ end) }
-    ensures { IfSome result (λ x. w.IsRun operands.now row word count end x) }
+// Walks so many operands, one after the other, up to the first that is not as most are.
+fn pass_usual(operands: &[u32], row: usize, word: usize, count: usize) -> Passed
+    requires { (count ≤ length operands.now / 16 - row) × (count ≤ 16) × (word < 2 ^ 32) }
+    ensures { w.IsPassed operands.now row word count result }
 {
     let rows = operands.as_chunks::<16>().0;
     let mut w = word;
     for i in 0..count {
         let Some(n) = usual(&rows[row + i], w) else {
-            return mixed(operands, row + i, w, count - i, end);
+            return Passed { count: i, word: w };
         };
         w += n;
     }
-    if end < w {
+    Passed { count, word: w }
+}
+
+// Walks so many operands, one after the other, whose words are before an end. The words only grow, so that all of them are
+// dwords where the last is. This is inlined, so that its answer is not passed through memory.
+#[inline(always)]
+pub fn run(operands: &[u32], row: usize, word: usize, count: usize, end: usize) -> Option<Ran>
+    requires { (count ≤ length operands.now / 16 - row) × (count ≤ 16) × (end < 2 ^ 32) × (word ≤ end) }
+    ensures { IfSome result (λ x. w.IsRun operands.now row word count end x) }
+{
+    let passed = pass_usual(operands, row, word, count);
+    if passed.count < count {
+        return mixed(
+            operands,
+            row + passed.count,
+            passed.word,
+            count - passed.count,
+            end,
+        );
+    }
+    if end < passed.word {
         return None;
     }
     Some(Ran { rows: 0, dwords: 0 })

@@ -1,5 +1,5 @@
 use Rattle.std.proofs.Common.{◌≡◌, ◌+◌}
-use Rattle.operand_walk.proofs.Runs.{Running}
+use Rattle.operand_walk.specs.Walks.{Running}
 use Rattle.operand_walk.proofs.mixed.Given as goal
 
 abbrev pub invariant-loop : goal.invariant-loop

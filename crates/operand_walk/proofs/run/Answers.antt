@@ -1,21 +1,10 @@
-use Rattle.std.proofs.Common.{arith, refl, ℕ, ◌≡◌, ◌+◌}
+use Rattle.std.proofs.Common.{arith}
 use Rattle.std.proofs.lemmas.Option.{IfSome_then}
-use Rattle.operand_deep.proofs.Fields.{its_row}
-use Rattle.operand_walk.proofs.Runs.{begin, stands_on, the_rest}
+use Rattle.operand_walk.proofs.Runs.{the_rest, finished}
 use Rattle.operand_walk.proofs.run.Goals as goal
 
-pub loop-i-init : goal.loop-i-init
-loop-i-init c = begin _ _ _
+pub returns-then-passed-count : goal.returns-then-passed-count
+returns-then-passed-count c = IfSome_then c.mixed.result c.mixed.ensures (λ x a. the_rest c.pass_usual-passed.ensures.running c.if-passed-count.true c.requires.2 a)
 
-pub usual-requires : goal.usual-requires
-usual-requires c = omega (arith, c.loop-i.invariant.words_to)
-
-pub returns-in_default : goal.returns-in_default
-returns-in_default c = IfSome_then c.mixed.result c.mixed.ensures (λ x a. the_rest c.loop-i.invariant c.loop-i-test.true c.requires.2 a)
-
-pub loop-i-preserved : goal.loop-i-preserved
-loop-i-preserved c =
-    let r : ℕ = c.args.row + c.loop-i.i in
-    let eq = its_row c.args.operands.now r c.as_chunks.ensures.front (omega arith) refl in
-    let e : r ≡ c.args.row + (c.loop-i.i + 0) = omega arith in
-    stands_on c.loop-i.invariant e eq c.in-Some.ensures.few c.in-Some.ensures.stands
+pub returns : goal.returns
+returns c = finished c.pass_usual-passed.ensures.running (omega arith) c.requires.2 c.if-end-passed.false
