@@ -3,10 +3,11 @@ use Prim.Native.Nat.{ℕ, ◌+◌, ◌*◌, ◌-◌, ◌/◌, ◌≤◌}
 use mathlib.Core.Path.{◌≡◌, refl, sym, ap, ◌∙◌, subst}
 use mathlib.Core.List.{List, ◌++◌}
 use mathlib.Core.Option.{Option, none, some}
-use mathlib.Core.Bool.{Bool, true, false, not, ◌||◌}
+use mathlib.Core.Bool.{Bool, true, not, ◌||◌}
 use lib.ListN.{length, get_or, drop, replicate, length-drop}
-use lib.Dec.{T, ltb, nltb→le}
+use lib.Dec.{ltb}
 use native.Mathlib.Omega.{arith}
+use Rattle.std.proofs.lemmas.Bool.Decides.{nat_tests}
 use Rattle.format.specs.declared.Refusal.{Refusal}
 use Rattle.format.specs.declared.Refusal.TheVariants.{OperandCount, Layout}
 use Rattle.std.specs.Prelude.{Ok, Err}
@@ -111,16 +112,7 @@ module _ (c : ℕ) (ds : List ℕ) {m : Bool} (q : m ≡ is_model51 (get_or ds 0
       }
 
 room_numbers : (a b d x y z : ℕ) → not (ltb x a || ltb y b || ltb z d) ≡ true → (a ≤ x) × (b ≤ y) × (d ≤ z)
-room_numbers a b d x y z e = go (ltb x a) (ltb y b) (ltb z d) refl refl refl e
-  where
-    low : (k n : ℕ) → ltb k n ≡ false → n ≤ k
-    low k n f = nltb→le k n (subst (λ (t : Bool). T (not t)) (sym f) tt)
-
-    go : (p q r : Bool) → ltb x a ≡ p → ltb y b ≡ q → ltb z d ≡ r → not (p || q || r) ≡ true → (a ≤ x) × (b ≤ y) × (d ≤ z)
-    go true q r f g h e = impossible (cc)
-    go false true r f g h e = impossible (cc)
-    go false false true f g h e = impossible (cc)
-    go false false false f g h e = (low x a f, low y b g, low z d h)
+room_numbers a b d x y z e = grind (arith, nat_tests)
 
 -- a chunk that was measured can be written
 pub begins : (c : ℕ) (chunk : List ℕ) {m : Bool} {v is os ws : ℕ} {n : Needs} → m ≡ is_model51 v → Entered chunk v is os ws → Ok n ≡ measured (passes c m (dwords_of chunk)) → Writing c m (dwords_of chunk) start is os ws
