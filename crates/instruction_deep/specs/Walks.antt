@@ -12,8 +12,16 @@ use Rattle.format.specs.Rows.{parts_rows, parts_words, top_level, parts}
 use Rattle.format.specs.Encoder.{at, chain_of, token_of_row, head_of_row}
 use Rattle.instruction_fields.specs.Fields.{classed}
 use Rattle.instruction_deep.specs.Confirm.{confirm_items, linked, head_taken}
+use Rattle.instruction_deep.specs.declared.standing.Pools.{Pools}
 use Rattle.instruction_deep.specs.declared.Walked.{Walked}
 use Rattle.instruction_deep.specs.declared.Parts.{Parts}
+
+-- the operand rows and the words of an instruction
+abbrev pub rows_in : Pools → List ℕ
+rows_in p = drop (16 * p.row) p.operands.now
+
+abbrev pub words_in : Pools → List ℕ
+words_in p = drop p.word p.words.now
 
 -- so many operand rows and dwords
 abbrev pub some_walked : ℕ → ℕ → Option Walked

@@ -9,11 +9,14 @@ ghost use Rattle.format.specs.Encoder as e;
 ghost use Rattle.layouts.specs.Shapes.{Sound, Laid, kind_number, items_of};
 ghost use Rattle.instruction_fields.specs.Fields.{fields_in};
 ghost use Rattle.instruction_deep.specs.Confirm as c;
-ghost use Rattle.instruction_deep.specs.Walks.{walked_instruction, Takes, Runs, Counts, Unchained, Chained, Headed, Fielded, Sized, Pieces, Placed, Bare};
+ghost use Rattle.instruction_deep.specs.Walks.{rows_in, words_in, walked_instruction, Takes, Runs, Counts, Unchained, Chained, Headed, Fielded, Sized, Pieces, Placed, Bare};
+
+mod standing;
 
 use framing::{long, sized};
 use instruction_fields::{Fields, exact_class, exact_token, fields_of, past_dwords, past_rest};
 use layouts::{Kind, Shape, counted_layout, in_bounds, operand_count, uncounted_layout};
+pub use standing::Pools;
 
 // The operand rows and the dwords of an instruction.
 #[derive(Clone, Copy, Drop)]
@@ -31,23 +34,16 @@ pub struct Parts {
 }
 
 // Walks so many operands, one after the other.
-pub fn operands_of(
-    operands: &[u32],
-    words: &[u32],
-    row: usize,
-    word: usize,
-    count: u32,
-) -> Option<Parts>
-    requires { word ≤ length words.now }
-    ensures { Runs count operands.now words.now row word result }
+pub fn operands_of(pools: &Pools, count: u32) -> Option<Parts>
+    ensures { Runs count pools.now.operands.now pools.now.words.now pools.now.row pools.now.word result }
 {
     let mut past = Parts {
-        row,
-        word,
+        row: pools.row,
+        word: pools.word,
         dwords: 0,
     };
     for _ in 0..count {
-        let walked = operand_walk::walk(operands, words, past.row, past.word, 64)?;
+        let walked = operand_walk::walk(pools.operands, pools.words, past.row, past.word, 64)?;
         past.row += walked.rows;
         past.word += walked.words;
         past.dwords += walked.dwords;
@@ -56,24 +52,23 @@ pub fn operands_of(
 }
 
 // Walks the items of a shape.
-fn parts_of(
-    operands: &[u32],
-    words: &[u32],
-    row: usize,
-    word: usize,
-    s: Shape,
-    model51: bool,
-) -> Option<Parts>
-    requires { (word ≤ length words.now) × Sound s }
-    ensures { Takes model51 (items_of s) s.operands operands.now words.now row word result }
+fn parts_of(pools: &Pools, s: Shape, model51: bool) -> Option<Parts>
+    requires { Sound s }
+    ensures { Takes model51 (items_of s) s.operands pools.now.operands.now pools.now.words.now pools.now.row pools.now.word result }
 {
-    let a = past_dwords(words, word, s.before)?;
-    let past = operands_of(operands, words, row, a, s.operands)?;
-    let end = past_rest(words, past.word, s, model51)?;
+    let a = past_dwords(pools.words, pools.word, s.before)?;
+    let behind = Pools {
+        operands: pools.operands,
+        row: pools.row,
+        words: pools.words,
+        word: a,
+    };
+    let past = operands_of(&behind, s.operands)?;
+    let end = past_rest(pools.words, past.word, s, model51)?;
     Some(Parts {
         row: past.row,
         word: end,
-        dwords: a - word + past.dwords + (end - past.word),
+        dwords: a - pools.word + past.dwords + (end - past.word),
     })
 }
 
@@ -271,30 +266,29 @@ pub fn placed(
 }
 
 // Walks an instruction of a known code.
-pub fn known(
-    instruction: &[u32; 16],
-    place: usize,
-    model51: bool,
-    operands: &[u32],
-    row: usize,
-    words: &[u32],
-    word: usize,
-) -> Option<Walked>
-    requires { word ≤ length words.now }
-    ensures { result ≡ walked_instruction (c.confirm_known model51 instruction.now place (drop (16 * row) operands.now) (drop word words.now) row word) }
+pub fn known(instruction: &[u32; 16], place: usize, model51: bool, pools: &Pools) -> Option<Walked>
+    ensures { result ≡ walked_instruction (c.confirm_known model51 instruction.now place (rows_in pools.now) (words_in pools.now) pools.now.row pools.now.word) }
 {
     let s = shape_of(instruction[2]);
-    let past = parts_of(operands, words, row, word, s, model51)?;
+    let past = parts_of(pools, s, model51)?;
     let kind = s.kind.number();
-    let n = past.word - word;
-    if !placed(instruction, place, kind, row, s.operands, word, n) {
+    let n = past.word - pools.word;
+    if !placed(
+        instruction,
+        place,
+        kind,
+        pools.row,
+        s.operands,
+        pools.word,
+        n,
+    ) {
         return None;
     }
     if !pieces(instruction, s, past.dwords) {
         return None;
     }
     Some(Walked {
-        rows: past.row - row,
+        rows: past.row - pools.row,
         dwords: instruction[1] as usize,
     })
 }
@@ -333,27 +327,21 @@ fn bare(instruction: &[u32; 16], dwords: usize, code: u32) -> bool
 }
 
 // Walks an instruction that is unread: its words are its dwords.
-pub fn unread(
-    instruction: &[u32; 16],
-    place: usize,
-    row: usize,
-    words: &[u32],
-    word: usize,
-) -> Option<Walked>
-    requires { word ≤ length words.now }
-    ensures { result ≡ walked_instruction (c.confirm_unread instruction.now place [] (drop word words.now) row word) }
+pub fn unread(instruction: &[u32; 16], place: usize, pools: &Pools) -> Option<Walked>
+    ensures { result ≡ walked_instruction (c.confirm_unread instruction.now place [] (words_in pools.now) pools.now.row pools.now.word) }
 {
-    let n = words.len() - word;
+    let n = pools.words.len() - pools.word;
     if n == 0 {
         return None;
     }
-    if own_size(words, word) != n {
+    if own_size(pools.words, pools.word) != n {
         return None;
     }
-    if !bare(instruction, n, words[word] % 2048) {
+    let code = pools.words[pools.word] % 2048;
+    if !bare(instruction, n, code) {
         return None;
     }
-    if !placed(instruction, place, 0, row, 0, word, n) {
+    if !placed(instruction, place, 0, pools.row, 0, pools.word, n) {
         return None;
     }
     Some(Walked { rows: 0, dwords: n })

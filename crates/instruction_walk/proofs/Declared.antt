@@ -53,7 +53,7 @@ split t c f n z hc hf hn =
     let d₃₁ : t / 2 ^ 31 ≡ 0 = omega arith in
     record { code_is = omega arith; length_is = rw d₂₄ (omega arith); top = rw d₃₁ }
 
-module _ (q : List ℕ) (x : Shape) (g : Declared (at 2 q) x) (b : at 2 q < 2048) (p : OnlyField q x) where
+module _ (q : List ℕ) (x : Shape) (g : Declared (at 2 q) x) (p : OnlyField q x) where
   abbrev c : ℕ
   c = at 2 q
 
@@ -91,7 +91,7 @@ module _ (q : List ℕ) (x : Shape) (g : Declared (at 2 q) x) (b : at 2 q < 2048
   made = rw (short_row, p.no_chain.bits_are, p.no_saturate, p.no_test, p.no_precise) (omega arith)
 
   parts : Split t c (at 1 q)
-  parts = split t c (at 7 q) (at 1 q) made b p.narrow p.short
+  parts = split t c (at 7 q) (at 1 q) made p.below p.narrow p.short
 
   code_of : at 2 q ≡ code t
   code_of = sym parts.code_is
@@ -223,9 +223,9 @@ module _ (m : Bool) (x : Shape) (rs ws : List ℕ) (r w : ℕ) (hw : w ≤ lengt
         let y : a - w + (x.operands + (b - a)) + (end - b) ≡ x.operands + (end - w) = omega (arith, f, behind_lone, t) in
         rw y at (all_parts_lem m x rs ws r w hw p ep a ea run _ refl z v ev end ee)
 
-    pub declared_walks : (q : List ℕ) (place : ℕ) → length q ≡ 16 → at 2 q < 2048 → Declared (at 2 q) x → OnlyField q x → {kind : ℕ} → kind ≡ kind_number x.kind → Placed q place kind r x.operands w (end - w) → at 1 q ≡ 1 + x.operands + (end - w) →
+    pub declared_walks : (q : List ℕ) (place : ℕ) → length q ≡ 16 → Declared (at 2 q) x → OnlyField q x → {kind : ℕ} → kind ≡ kind_number x.kind → Placed q place kind r x.operands w (end - w) → at 1 q ≡ 1 + x.operands + (end - w) →
         some_walked x.operands (1 + x.operands + (end - w)) ≡ walked_instruction (confirm_known m q place (drop (16 * r) rs) (drop w ws) r w)
-    declared_walks q place h hc g f ek pl e =
+    declared_walks q place h g f ek pl e =
         let j : x.operands ≡ r + x.operands - r = omega arith in
-        let s : Pieces q (x.operands + (end - w)) = declared_pieces q x g hc f _ (omega arith) in
+        let s : Pieces q (x.operands + (end - w)) = declared_pieces q x g f _ (omega arith) in
         (λ i. some_walked (j i) (sym e i)) ∙ walks q place m rs ws r w h x g.laid declared_parts _ refl ek (holds pl) refl (holds s) refl

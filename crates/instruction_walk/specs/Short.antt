@@ -73,6 +73,7 @@ pub record OnlyField (q : List ℕ) (x : Shape) : Type 0 where
   pub no_test : at 5 q ≡ 0
   pub no_precise : at 6 q ≡ 0
   pub no_chain : Unchained q 0
+  pub below : at 2 q < 2 ^ 11
   pub short : at 1 q < 2 ^ 7
   pub narrow : at 7 q < 2 ^ 13
   pub field_is : field_in (field_of x) (short_token q) ≡ at 7 q

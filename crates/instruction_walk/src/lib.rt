@@ -6,10 +6,13 @@ ghost use Rattle.std.specs.Prelude.{◌≡◌, ◌*◌, ◌^◌, ◌<◌, ◌≤
 ghost use Rattle.layouts.specs.Shapes.{Sound};
 ghost use Rattle.instruction_fields.specs.Fields.{Declared};
 ghost use Rattle.instruction_deep.specs.Confirm as c;
-ghost use Rattle.instruction_deep.specs.Walks.{walked_instruction, Counts, Unchained};
+ghost use Rattle.instruction_deep.specs.Walks.{rows_in, words_in, walked_instruction, Counts, Unchained};
 ghost use Rattle.instruction_walk.specs.Short.{Counted, Bits, Plain, Ready, Linked, chain_in, KnownIf, Stepped, Fitting, OnlyField, Lone};
 
-use instruction_deep::{Walked, chained, known, operands_of, placed, unread};
+mod edition;
+
+pub use edition::Rules;
+use instruction_deep::{Pools, Walked, chained, known, operands_of, placed, unread};
 use instruction_fields::{past_dwords, past_rest, tests};
 use layouts::{Shape, declaration, declared, operand_count};
 use operand_deep::pair;
@@ -70,27 +73,21 @@ fn linked(instruction: &[u32; 16]) -> Option<usize>
 
 // Walks an instruction of a code with a count, where its row is plain and the operands have one row or two each: behind them
 // are words as they are. None says nothing.
-fn quick(
-    instruction: &[u32; 16],
-    place: usize,
-    operands: &[u32],
-    row: usize,
-    words: &[u32],
-    word: usize,
-) -> Option<Walked>
-    requires { (word ≤ length words.now) × (get_or instruction.now 2 0 < 2048) × (get_or instruction.now 3 0 ≡ 1) × (length words.now < 2 ^ 32) }
-    ensures { KnownIf instruction.now place (drop (16 * row) operands.now) (drop word words.now) row word result }
+fn quick(instruction: &[u32; 16], place: usize, pools: &Pools) -> Option<Walked>
+    requires { (get_or instruction.now 2 0 < 2048) × (get_or instruction.now 3 0 ≡ 1) }
+    ensures { KnownIf instruction.now place (rows_in pools.now) (words_in pools.now) pools.now.row pools.now.word result }
 {
-    let rest = words.len() - word;
-    if !ready(instruction, place, row, word, rest) {
+    let end = pools.words.len();
+    let rest = end - pools.word;
+    if 0x1_0000_0000 <= end || !ready(instruction, place, pools.row, pools.word, rest) {
         return None;
     }
     let count = operand_count(instruction[2])?;
     let k = count as usize;
-    if instruction[13] != count || operands.len() / 16 < row + k {
+    if instruction[13] != count || pools.operands.len() / 16 < pools.row + k {
         return None;
     }
-    let ran = operand_walk::run(operands, row, word, k, words.len())?;
+    let ran = operand_walk::run(pools.operands, pools.row, pools.word, k, end)?;
     let dwords = 1 + k + rest + ran.dwords + linked(instruction)?;
     if 128 <= dwords || instruction[1] as usize != dwords {
         return None;
@@ -103,33 +100,26 @@ fn quick(
 
 // Walks an instruction of a code with so many operands, where its row is plain, by its operands one after the other. None
 // says nothing.
-fn by_count(
-    instruction: &[u32; 16],
-    place: usize,
-    operands: &[u32],
-    row: usize,
-    words: &[u32],
-    word: usize,
-    count: u32,
-) -> Option<Walked>
-    requires { (word ≤ length words.now) × Counted instruction.now count }
-    ensures { KnownIf instruction.now place (drop (16 * row) operands.now) (drop word words.now) row word result }
+fn by_count(instruction: &[u32; 16], place: usize, pools: &Pools, count: u32) -> Option<Walked>
+    requires { Counted instruction.now count }
+    ensures { KnownIf instruction.now place (rows_in pools.now) (words_in pools.now) pools.now.row pools.now.word result }
 {
     if !plain(instruction) {
         return None;
     }
-    let rest = words.len() - word;
-    if !placed(instruction, place, 1, row, count, word, rest) {
+    let end = pools.words.len();
+    let rest = end - pools.word;
+    if !placed(instruction, place, 1, pools.row, count, pools.word, rest) {
         return None;
     }
-    let past = operands_of(operands, words, row, word, count)?;
+    let past = operands_of(pools, count)?;
     let chain = linked(instruction)?;
-    let dwords = 1 + chain + past.dwords + (words.len() - past.word);
+    let dwords = 1 + chain + past.dwords + (end - past.word);
     if 128 <= dwords || instruction[1] as usize != dwords {
         return None;
     }
     Some(Walked {
-        rows: past.row - row,
+        rows: past.row - pools.row,
         dwords,
     })
 }
@@ -164,46 +154,50 @@ fn only_field(instruction: &[u32; 16], s: Shape) -> bool
         && field_fits(s, instruction[7])
 }
 
-// Past an operand that stands alone and has no extension, if there is to be one. None says nothing.
-fn past_lone(operands: &[u32], words: &[u32], row: usize, at: usize, count: u32) -> Option<usize>
-    requires { (at ≤ length words.now) × (count ≤ 1) × (length words.now < 2 ^ 32) }
-    ensures { Lone count operands.now words.now row at result }
+// Past an operand that stands alone and has no extension, at the pools' row and a word, if there is to be one. None says
+// nothing.
+fn past_lone(pools: &Pools, at: usize, count: u32) -> Option<usize>
+    requires { (at ≤ length pools.now.words.now) × (count ≤ 1) }
+    ensures { Lone count pools.now.operands.now pools.now.words.now pools.now.row at result }
 {
     if count == 0 {
         return Some(at);
     }
-    if operands.len() / 16 <= row {
+    let end = pools.words.len();
+    if 0x1_0000_0000 <= end || pools.operands.len() / 16 <= pools.row {
         return None;
     }
-    let ran = operand_walk::run(operands, row, at, 1, words.len())?;
+    let ran = operand_walk::run(pools.operands, pools.row, at, 1, end)?;
     if ran.rows != 0 || ran.dwords != 0 {
         return None;
     }
-    Some(at + operands[16 * row + 15] as usize - 1)
+    Some(at + pools.operands[16 * pools.row + 15] as usize - 1)
 }
 
-// Walks a declaration, where its row has only a field and its operand stands alone. None says nothing.
+// Walks a declaration whose row has only a field, where its operand stands alone. None says nothing.
 fn short_declaration(
     instruction: &[u32; 16],
     place: usize,
     model51: bool,
-    operands: &[u32],
-    row: usize,
-    words: &[u32],
-    word: usize,
+    pools: &Pools,
     s: Shape,
 ) -> Option<Walked>
-    requires { (word ≤ length words.now) × (get_or instruction.now 2 0 < 2048) × Declared (get_or instruction.now 2 0) s × Stepped s × (length words.now < 2 ^ 32) }
-    ensures { IfSome result (λ x. Some x ≡ walked_instruction (c.confirm_known model51 instruction.now place (drop (16 * row) operands.now) (drop word words.now) row word)) }
+    requires { OnlyField instruction.now s × Declared (get_or instruction.now 2 0) s }
+    ensures { IfSome result (λ x. Some x ≡ walked_instruction (c.confirm_known model51 instruction.now place (rows_in pools.now) (words_in pools.now) pools.now.row pools.now.word)) }
 {
-    if !only_field(instruction, s) {
-        return None;
-    }
-    let a = past_dwords(words, word, s.before)?;
-    let b = past_lone(operands, words, row, a, s.operands)?;
-    let k = past_rest(words, b, s, model51)? - word;
+    let a = past_dwords(pools.words, pools.word, s.before)?;
+    let b = past_lone(pools, a, s.operands)?;
+    let k = past_rest(pools.words, b, s, model51)? - pools.word;
     let kind = s.kind.number();
-    if !placed(instruction, place, kind, row, s.operands, word, k) {
+    if !placed(
+        instruction,
+        place,
+        kind,
+        pools.row,
+        s.operands,
+        pools.word,
+        k,
+    ) {
         return None;
     }
     let rows = s.operands as usize;
@@ -216,93 +210,46 @@ fn short_declaration(
 
 // Walks the instruction that `walk` walks, of a code with a count or of a declaration, where its row is usual and its operands
 // stand alone, as many as the row tells, or have one operand in an index. None says nothing.
-fn usual(
-    instruction: &[u32; 16],
-    place: usize,
-    ceiling: u32,
-    model51: bool,
-    operands: &[u32],
-    row: usize,
-    words: &[u32],
-    word: usize,
-) -> Option<Walked>
-    requires { (word ≤ length words.now) × (ceiling ≤ 2048) × (length words.now < 2 ^ 32) }
-    ensures { IfSome result (λ x. Some x ≡ walked_instruction (c.confirm_instruction ceiling model51 instruction.now place (drop (16 * row) operands.now) (drop word words.now) row word)) }
+fn usual(instruction: &[u32; 16], place: usize, rules: Rules, pools: &Pools) -> Option<Walked>
+    ensures { IfSome result (λ x. Some x ≡ walked_instruction (c.confirm_instruction rules.ceiling rules.model51 instruction.now place (rows_in pools.now) (words_in pools.now) pools.now.row pools.now.word)) }
 {
     let code = instruction[2];
-    if ceiling <= code {
+    if rules.ceiling <= code {
         return None;
     }
     if instruction[3] == 1 {
-        return quick(instruction, place, operands, row, words, word);
+        return quick(instruction, place, pools);
     }
     let s = declared(declaration(code)?);
-    short_declaration(instruction, place, model51, operands, row, words, word, s)
+    if !only_field(instruction, s) {
+        return None;
+    }
+    short_declaration(instruction, place, rules.model51, pools, s)
 }
 
 // Walks it the general way.
-fn general(
-    instruction: &[u32; 16],
-    place: usize,
-    ceiling: u32,
-    model51: bool,
-    operands: &[u32],
-    row: usize,
-    words: &[u32],
-    word: usize,
-) -> Option<Walked>
-    requires { (word ≤ length words.now) × (ceiling ≤ 2048) }
-    ensures { result ≡ walked_instruction (c.confirm_instruction ceiling model51 instruction.now place (drop (16 * row) operands.now) (drop word words.now) row word) }
+fn general(instruction: &[u32; 16], place: usize, rules: Rules, pools: &Pools) -> Option<Walked>
+    ensures { result ≡ walked_instruction (c.confirm_instruction rules.ceiling rules.model51 instruction.now place (rows_in pools.now) (words_in pools.now) pools.now.row pools.now.word) }
 {
     let code = instruction[2];
-    if ceiling <= code {
-        return unread(instruction, place, row, words, word);
+    if rules.ceiling <= code {
+        return unread(instruction, place, pools);
     }
     if let Some(count) = operand_count(code) {
-        if let Some(walked) = by_count(instruction, place, operands, row, words, word, count) {
+        if let Some(walked) = by_count(instruction, place, pools, count) {
             return Some(walked);
         }
     }
-    known(instruction, place, model51, operands, row, words, word)
+    known(instruction, place, rules.model51, pools)
 }
 
 // Walks the instruction of a row whose token stands at a place, from an operand row on and a word on; the words end with the
 // instruction's own. Codes from the ceiling on are unread.
-pub fn walk(
-    instruction: &[u32; 16],
-    place: usize,
-    ceiling: u32,
-    model51: bool,
-    operands: &[u32],
-    row: usize,
-    words: &[u32],
-    word: usize,
-) -> Option<Walked>
-    requires { (word ≤ length words.now) × (ceiling ≤ 2048) }
-    ensures { result ≡ walked_instruction (c.confirm_instruction ceiling model51 instruction.now place (drop (16 * row) operands.now) (drop word words.now) row word) }
+pub fn walk(instruction: &[u32; 16], place: usize, rules: Rules, pools: &Pools) -> Option<Walked>
+    ensures { result ≡ walked_instruction (c.confirm_instruction rules.ceiling rules.model51 instruction.now place (rows_in pools.now) (words_in pools.now) pools.now.row pools.now.word) }
 {
-    if words.len() < 0x1_0000_0000 {
-        if let Some(walked) = usual(
-            instruction,
-            place,
-            ceiling,
-            model51,
-            operands,
-            row,
-            words,
-            word,
-        ) {
-            return Some(walked);
-        }
+    if let Some(walked) = usual(instruction, place, rules, pools) {
+        return Some(walked);
     }
-    general(
-        instruction,
-        place,
-        ceiling,
-        model51,
-        operands,
-        row,
-        words,
-        word,
-    )
+    general(instruction, place, rules, pools)
 }

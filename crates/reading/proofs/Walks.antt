@@ -122,10 +122,11 @@ module _ (c : ℕ) (m : Bool) (is rs ws : List ℕ) (k : ℕ) (s : Walk) (h : k 
   abbrev n : ℕ
   n = at 15 q
 
+  abbrev behind : Instruction → Maybe (List Instruction)
+  behind i = ◌>>=◌ (confirm_all c m (length is / 16 - (k + 1)) (4 * s.at + 4 * length (dwords i)) (drop 16 (drop (16 * k) is)) (drop (16 * parts_rows (parts i)) (drop (16 * s.row) rs)) (drop n (drop s.word ws)) (s.row + parts_rows (parts i)) (s.word + n)) (λ l. just (i ∷ l))
+
   abbrev after : Instruction → Maybe (List Instruction)
-  after i =
-      cond (leb (4 * s.at + 4 * length (dwords i)) 1_048_576)
-      (◌>>=◌ (confirm_all c m (length is / 16 - (k + 1)) (4 * s.at + 4 * length (dwords i)) (drop 16 (drop (16 * k) is)) (drop (16 * parts_rows (parts i)) (drop (16 * s.row) rs)) (drop n (drop s.word ws)) (s.row + parts_rows (parts i)) (s.word + n)) (λ l. just (i ∷ l))) nothing
+  after i = cond (leb (4 * s.at + 4 * length (dwords i)) 1_048_576) (behind i) nothing
 
   abbrev one : Maybe Instruction
   one = confirm_instruction c m q (4 * s.at) (drop (16 * s.row) rs) (take n (drop s.word ws)) s.row s.word
@@ -229,11 +230,11 @@ pub record Next (c : ℕ) (m : Bool) (is rs ws : List ℕ) (k : ℕ) (s : Walk) 
 pub next_of : {c : ℕ} {m : Bool} {is rs ws : List ℕ} {k : ℕ} {s : Walk} (h : k < length is / 16) {l : List Instruction} → onward c m is rs ws k s ≡ just l → Next c m is rs ws k s l
 next_of {c} {m} {is} {rs} {ws} {k} {s} h {l} e =
     let w : ℕ = at 15 (row_at k is) in
-    let a = cond_just (leb w (length (drop s.word ws))) _ (sym (here c m is rs ws k s h) ∙ e) in
+    let a = cond_just (leb w (length (drop s.word ws))) (◌>>=◌ (one c m is rs ws k s h) (after c m is rs ws k s h)) (sym (here c m is rs ws k s h) ∙ e) in
     let z : w ≤ length ws - s.word = omega (arith, leb-true w (length (drop s.word ws)) a.0, length-drop s.word ws) in
     let b = bind_just (one c m is rs ws k s h) (after c m is rs ws k s h) a.1 in
     let i : Instruction = b.0 in
-    let d = cond_just (leb (4 * s.at + 4 * length (dwords i)) 1_048_576) _ b.2 in
+    let d = cond_just (leb (4 * s.at + 4 * length (dwords i)) 1_048_576) (behind c m is rs ws k s h i) b.2 in
     let f = from c m is rs ws k s h z b.1 (leb-true _ 1_048_576 d.0) in
     let g = bind_just (onward c m is rs ws (k + 1) (past s w i)) (λ l. just (i ∷ l)) (sym f ∙ e) in
     record {

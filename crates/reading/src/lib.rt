@@ -8,7 +8,8 @@ ghost use Rattle.reading.specs.Confirm as c;
 ghost use Rattle.reading.specs.Walks as w;
 
 use header::{ceiling, decode_version, is_model51};
-use instruction_walk::walk;
+use instruction_deep::Pools;
+use instruction_walk::{Rules, walk};
 
 // The dwords of the longest chunk that is read, of 1,048,576 bytes.
 const MOST_DWORDS: usize = 262_144;
@@ -36,28 +37,22 @@ fn next(
     operands: &[u32],
     words: &[u32],
     s: Walk,
-    ceiling: u32,
-    model51: bool,
+    rules: Rules,
 ) -> Option<Walk>
-    requires { (s.at < 2 ^ 33) × (16 * s.row ≤ length operands.now) × (s.word ≤ length words.now) × (ceiling ≤ 2048) }
-    ensures { result ≡ w.next_walk ceiling model51 instruction.now operands.now words.now s }
+    requires { (s.at < 2 ^ 33) × (16 * s.row ≤ length operands.now) × (s.word ≤ length words.now) }
+    ensures { result ≡ w.next_walk rules.ceiling rules.model51 instruction.now operands.now words.now s }
 {
     let end = s.word + instruction[15] as usize;
     if words.len() < end {
         return None;
     }
-    let own = &words[..end];
-    let place = s.at * 4;
-    let walked = walk(
-        instruction,
-        place,
-        ceiling,
-        model51,
+    let pools = Pools {
         operands,
-        s.row,
-        own,
-        s.word,
-    )?;
+        row: s.row,
+        words: &words[..end],
+        word: s.word,
+    };
+    let walked = walk(instruction, s.at * 4, rules, &pools)?;
     Some(Walk {
         at: s.at + walked.dwords,
         row: s.row + walked.rows,
@@ -67,15 +62,9 @@ fn next(
 
 // Walks over all instructions, whose rows are these; their operands' rows and words are these and no others. The chunk's
 // dwords, or that it is no chunk's.
-fn walk_all(
-    instructions: &[u32],
-    operands: &[u32],
-    words: &[u32],
-    ceiling: u32,
-    model51: bool,
-) -> Option<usize>
-    requires { (16 * (length instructions.now / 16) ≡ length instructions.now) × (ceiling ≤ 2048) }
-    ensures { result ≡ w.dwords_from 2 (c.confirm_all ceiling model51 (length instructions.now / 16) 8 instructions.now operands.now words.now 0 0) }
+fn walk_all(instructions: &[u32], operands: &[u32], words: &[u32], rules: Rules) -> Option<usize>
+    requires { 16 * (length instructions.now / 16) ≡ length instructions.now }
+    ensures { result ≡ w.dwords_from 2 (c.confirm_all rules.ceiling rules.model51 (length instructions.now / 16) 8 instructions.now operands.now words.now 0 0) }
 {
     let mut s = Walk {
         at: 2,
@@ -84,7 +73,7 @@ fn walk_all(
     };
     let (rows, _) = instructions.as_chunks::<16>();
     for row in rows {
-        s = next(row, operands, words, s, ceiling, model51)?;
+        s = next(row, operands, words, s, rules)?;
     }
     if MOST_DWORDS < s.at || s.row * 16 < operands.len() || s.word < words.len() {
         return None;
@@ -121,11 +110,9 @@ pub fn size(
     if !taken(edition, version) {
         return None;
     }
-    walk_all(
-        &instructions[..i],
-        &operands[..o],
-        &words[..n],
-        ceiling(edition),
-        is_model51(version),
-    )
+    let rules = Rules {
+        ceiling: ceiling(edition),
+        model51: is_model51(version),
+    };
+    walk_all(&instructions[..i], &operands[..o], &words[..n], rules)
 }

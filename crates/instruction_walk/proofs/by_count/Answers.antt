@@ -19,4 +19,4 @@ pub overflow_sub-result : goal.overflow_sub-result
 overflow_sub-result c = (bounds (c.in_ok-past.ensures true)).rows_from
 
 pub returns : goal.returns
-returns c = one_by_one c.args.instruction.now c.args.place c.args.operands.now c.args.words.now c.args.row c.args.word (omega arith) c.requires.1 (c.plain.ensures c.if-not-plain.false) (c.placed.ensures.0 c.if-not-placed.false) c.in_ok-past.ensures c.in_ok-chain.ensures c.if-dwords-ge128.false c.if-instruction-dwords.false
+returns c = one_by_one c.args.instruction.now c.args.place c.args.pools.now.operands.now c.args.pools.now.words.now c.args.pools.now.row c.args.pools.now.word (omega arith) c.requires (c.plain.ensures c.if-not-plain.false) (c.placed.ensures.0 c.if-not-placed.false) c.in_ok-past.ensures c.in_ok-chain.ensures c.if-dwords-ge128.false c.if-instruction-dwords.false

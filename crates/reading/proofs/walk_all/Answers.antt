@@ -10,10 +10,10 @@ use Rattle.reading.proofs.walk_all.Goals as goal
 use Rattle.reading.proofs.walk_all.Goals.{then-s-gt-MOST_DWORDS-via-then-s-gt-MOST_DWORDS, then-s-gt-MOST_DWORDS-via-else-s-gt-MOST_DWORDS+then-s-operands, then-s-gt-MOST_DWORDS-via-else-s-gt-MOST_DWORDS+else-s-operands+then-s-words}
 
 pub returns-in_err-s : goal.returns-in_err-s
-returns-in_err-s c = c.from_residual.ensures ∙ went_off c.loop-row.invariant (omega (arith, c.loop-row-test.true, c.as_chunks.ensures.front_len)) (subst (λ q. None ≡ next_walk c.args.ceiling c.args.model51 q c.args.operands.now c.args.words.now c.loop-row.s) (its_row c.args.instructions.now c.loop-row.row-index c.as_chunks.ensures.front (omega (arith, c.loop-row-test.true, c.as_chunks.ensures.front_len)) refl) c.in_err-s.ensures)
+returns-in_err-s c = c.from_residual.ensures ∙ went_off c.loop-row.invariant (omega (arith, c.loop-row-test.true, c.as_chunks.ensures.front_len)) (subst (λ q. None ≡ next_walk c.args.rules.ceiling c.args.rules.model51 q c.args.operands.now c.args.words.now c.loop-row.s) (its_row c.args.instructions.now c.loop-row.row-index c.as_chunks.ensures.front (omega (arith, c.loop-row-test.true, c.as_chunks.ensures.front_len)) refl) c.in_err-s.ensures)
 
 pub loop-row-preserved : goal.loop-row-preserved
-loop-row-preserved c = went_on c.loop-row.invariant (omega (arith, c.loop-row-test.true, c.as_chunks.ensures.front_len)) (λ j. omega (arith, c.type_inv.instructions j)) (subst (λ q. Some c.in_ok-s.s ≡ next_walk c.args.ceiling c.args.model51 q c.args.operands.now c.args.words.now c.loop-row.s) (its_row c.args.instructions.now c.loop-row.row-index c.as_chunks.ensures.front (omega (arith, c.loop-row-test.true, c.as_chunks.ensures.front_len)) refl) c.in_ok-s.ensures)
+loop-row-preserved c = went_on c.loop-row.invariant (omega (arith, c.loop-row-test.true, c.as_chunks.ensures.front_len)) (λ j. omega (arith, c.type_inv.instructions j)) (subst (λ q. Some c.in_ok-s.s ≡ next_walk c.args.rules.ceiling c.args.rules.model51 q c.args.operands.now c.args.words.now c.loop-row.s) (its_row c.args.instructions.now c.loop-row.row-index c.as_chunks.ensures.front (omega (arith, c.loop-row-test.true, c.as_chunks.ensures.front_len)) refl) c.in_ok-s.ensures)
 
 pub returns-then-s-gt-MOST_DWORDS : goal.returns-then-s-gt-MOST_DWORDS
 returns-then-s-gt-MOST_DWORDS c =
