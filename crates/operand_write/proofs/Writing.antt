@@ -231,7 +231,7 @@ module _ (left : ℕ) (ds : List ℕ) (at : ℕ) {ops ws row word : ℕ} (q : Ro
   short_wrote s = flat_wrote front q false unimmediate refl (low_flat t low) s
 
 -- an index
-module _ (k : ℕ) (ds : List ℕ) (r at : ℕ) {ops ws row word : ℕ} {b : Sums} (q : Ready (read_index (operand k) r (drop (at + b.dwords) ds)) (length ds) at ops ws row word b) where
+module _ (k : ℕ) (ds : List ℕ) (r at : ℕ) {row word : ℕ} {b : Sums} (L W : List ℕ) (q : Ready (read_index (operand k) r (drop (at + b.dwords) ds)) (length ds) at (length L) (length W) row word b) where
   pub indexed : Index (operand k) ds r (at + b.dwords) q.tree q.rest
   indexed = index_of (operand k) ds r (at + b.dwords) q.tree q.rest q.within q.is
 
@@ -246,8 +246,8 @@ module _ (k : ℕ) (ds : List ℕ) (r at : ℕ) {ops ws row word : ℕ} {b : Sum
     pub rows_are : tree_rows q.tree ≡ tree_rows indexed.child
     pub words_are : length (tree_words q.tree) ≡ own r + length (tree_words indexed.child)
     pub dwords_are : length (dwords q.tree) ≡ own r + length (dwords indexed.child)
-    pub for_rows : 16 * (b.rows + tree_rows q.tree) ≤ ops
-    pub for_words : b.words + length (tree_words q.tree) ≤ ws
+    pub for_rows : 16 * (b.rows + tree_rows q.tree) ≤ length L
+    pub for_words : b.words + length (tree_words q.tree) ≤ length W
     pub row_fits : row + b.rows + tree_rows q.tree < 2 ^ 32
     pub word_fits : word + b.words + length (tree_words q.tree) < 2 ^ 32
     pub dwords_fit : b.dwords + length (dwords q.tree) < 2 ^ 32
@@ -267,16 +267,18 @@ module _ (k : ℕ) (ds : List ℕ) (r at : ℕ) {ops ws row word : ℕ} {b : Sum
         dwords_fit = q.dwords_fit;
       }
 
-  pub own_room : OwnRoom (length ds) at (own r) ws b
+  pub own_room : OwnRoom (length ds) at (own r) (length W) b
   own_room = record { within = counted.within; for_words = omega (arith, counted) }
 
-  module _ (m : Bool) (em : m ≡ nests r) {W W₁ : List ℕ} {s₁ : Sums} (y : Owned ds at (own r) b W s₁ W₁) where
+  module _ {m : Bool} (em : m ≡ nests r) {W₁ : List ℕ} {s₁ : Sums} (y : Owned ds at (own r) b W s₁ W₁) where
     child_is : not m ≡ false → operand k (drop (at + s₁.dwords) ds) ≡ got indexed.child q.rest
     child_is h = let z : at + s₁.dwords ≡ at + b.dwords + own r = omega (arith, y.dwords_are) in ap (λ (n : ℕ). operand k (drop n ds)) z ∙ indexed.nested (sym em ∙ not-false m h)
 
-    pub child_room : not m ≡ false → (L : List ℕ) (f : ℕ) → length L ≡ ops → length W₁ ≡ ws → f ≡ 16 * s₁.rows
-        → Room (operand k (drop (at + s₁.dwords) ds)) (length (take (length L - f) (drop f L))) (length (take (length W₁ - s₁.words) (drop s₁.words W₁))) (row + s₁.rows) (word + s₁.words)
-    child_room h L f lo lw ef =
+    abbrev pub f : ℕ
+    f = s₁.rows * 16
+
+    pub child_room : not m ≡ false → length W₁ ≡ length W → Room (operand k (drop (at + s₁.dwords) ds)) (length (take (length L - f) (drop f L))) (length (take (length W₁ - s₁.words) (drop s₁.words W₁))) (row + s₁.rows) (word + s₁.words)
+    child_room h lw =
         let ll = lent_length f L in
         let lm = lent_length s₁.words W₁ in
         record {
@@ -290,12 +292,12 @@ module _ (k : ℕ) (ds : List ℕ) (r at : ℕ) {ops ws row word : ℕ} {b : Sum
           dwords_fit = omega (arith, counted, y);
         }
 
-    pub child_put : not m ≡ false → {row₁ word₁ : ℕ} {L U : List ℕ} {x : Sums} {L' U' : List ℕ} → Wrote (operand k (drop (at + s₁.dwords) ds)) row₁ word₁ L U x L' U' → Put indexed.child row₁ word₁ L U x L' U'
+    pub child_put : not m ≡ false → {row₁ word₁ : ℕ} {l u : List ℕ} {x : Sums} {l' u' : List ℕ} → Wrote (operand k (drop (at + s₁.dwords) ds)) row₁ word₁ l u x l' u' → Put indexed.child row₁ word₁ l u x l' u'
     child_put h w = w indexed.child q.rest (child_is h)
 
-    pub flat_put : not m ≡ true → (L : List ℕ) → WroteNext (read_index (operand k) r (drop (at + b.dwords) ds)) row word b L W s₁ L W₁
+    pub flat_put : not m ≡ true → WroteNext (read_index (operand k) r (drop (at + b.dwords) ds)) row word b L W s₁ L W₁
     unfolding tree_rows tree_words dwords tree_table
-    flat_put h L =
+    flat_put h =
         let et : q.tree ≡ plain owned none = indexed.is ∙ ap (plain owned) (indexed.flat (sym em ∙ not-true m h)) in
         let ew : length (owned ++ []) ≡ own r = simp append-nil owned_long in
         next_of q.tree q.rest q.is
@@ -308,12 +310,11 @@ module _ (k : ℕ) (ds : List ℕ) (r at : ℕ) {ops ws row word : ℕ} {b : Sum
           words_put = rw (append-nil owned) y.words_put;
         })
 
-    pub nested_put : not m ≡ false → (x s : Sums) → s.rows ≡ s₁.rows + x.rows → s.words ≡ s₁.words + x.words → s.dwords ≡ s₁.dwords + x.dwords → (L us vs : List ℕ) → length W ≡ ws
-        → (f : ℕ) → f ≡ 16 * s₁.rows
-        → Wrote (operand k (drop (at + s₁.dwords) ds)) (row + s₁.rows) (word + s₁.words) (take (length L - f) (drop f L)) (take (length W₁ - s₁.words) (drop s₁.words W₁)) x us vs
-        → WroteNext (read_index (operand k) r (drop (at + b.dwords) ds)) row word b L W s (put_mid f (length L - f) L us) (put_mid s₁.words (length W₁ - s₁.words) W₁ vs)
+    pub nested_put : not m ≡ false → {x : Sums} {us vs : List ℕ} → Wrote (operand k (drop (at + s₁.dwords) ds)) (row + s₁.rows) (word + s₁.words) (take (length L - f) (drop f L)) (take (length W₁ - s₁.words) (drop s₁.words W₁)) x us vs
+        → WroteNext (read_index (operand k) r (drop (at + b.dwords) ds)) row word b L W (record { rows = s₁.rows + x.rows; words = s₁.words + x.words; dwords = s₁.dwords + x.dwords }) (put_mid f (length L - f) L us) (put_mid s₁.words (length W₁ - s₁.words) W₁ vs)
     unfolding tree_rows tree_words dwords tree_table
-    nested_put h x s e₀ e₁ e₂ L us vs lw f ef wr =
+    nested_put h {x} {us} {vs} wr =
+        let s : Sums = record { rows = s₁.rows + x.rows; words = s₁.words + x.words; dwords = s₁.dwords + x.dwords } in
         let c : Tree = indexed.child in
         let p = child_put h wr in
         let lo = length-append owned (tree_words c) in
@@ -344,7 +345,7 @@ row_of r w t x e a b c w₀ w₁ w₂ r₀ r₁ r₂ rows ds ex f₀ f₁ f₂ g
     λ i. row_for t (ex i) (f₀ i) (f₁ i) (f₂ i) (g₀ i) (g₁ i) (g₂ i) (er i) (ed i)
 
 -- an operand with indices: the sums before the first, and after each
-module _ (k : ℕ) (ds : List ℕ) (t : ℕ) (e : List ℕ) (b : ℕ) {ops ws row word : ℕ} (q : Room (read_indices (operand k) t e (drop b ds)) ops ws row word) (h : b ≤ length ds) where
+module _ (k : ℕ) (ds : List ℕ) (t : ℕ) (e : List ℕ) (b : ℕ) {row word : ℕ} (L₀ W₀ : List ℕ) (q : Room (read_indices (operand k) t e (drop b ds)) (length L₀) (length W₀) row word) (h : b ≤ length ds) where
   pub nodes : Node k ds t e b q.tree
   nodes = node_of k ds t e b q.tree q.rest h q.is
 
@@ -358,8 +359,8 @@ module _ (k : ℕ) (ds : List ℕ) (t : ℕ) (e : List ℕ) (b : ℕ) {ops ws ro
   x₂ = nodes.x₂
 
   pub record Numbers : Type 0 where
-    pub for_rows : 16 * (1 + tree_rows x₀ + tree_rows x₁ + tree_rows x₂) ≤ ops
-    pub for_words : length (tree_words x₀) + length (tree_words x₁) + length (tree_words x₂) ≤ ws
+    pub for_rows : 16 * (1 + tree_rows x₀ + tree_rows x₁ + tree_rows x₂) ≤ length L₀
+    pub for_words : length (tree_words x₀) + length (tree_words x₁) + length (tree_words x₂) ≤ length W₀
     pub row_fits : row + (1 + tree_rows x₀ + tree_rows x₁ + tree_rows x₂) < 2 ^ 32
     pub word_fits : word + (length (tree_words x₀) + length (tree_words x₁) + length (tree_words x₂)) < 2 ^ 32
     pub dwords_fit : 1 + length e + (length (dwords x₀) + length (dwords x₁) + length (dwords x₂)) < 2 ^ 32
@@ -382,148 +383,152 @@ module _ (k : ℕ) (ds : List ℕ) (t : ℕ) (e : List ℕ) (b : ℕ) {ops ws ro
         within = nodes.within;
       }
 
-  module _ (s₀ : Sums) (c₀ : s₀.rows ≡ 1) (d₀ : s₀.words ≡ 0) (f₀ : s₀.dwords ≡ 0) where
-    pub ready₀ : (r : ℕ) → r ≡ repr 0 t → Ready (read_index (operand k) r (drop (b + s₀.dwords) ds)) (length ds) b ops ws row word s₀
-    ready₀ r er =
-        let z : b ≡ b + s₀.dwords = omega arith in
+  -- the operand's own row is counted
+  abbrev pub s₀ : Sums
+  s₀ = record { rows = 1; words = 0; dwords = 0 }
+
+  pub ready₀ : {r : ℕ} → r ≡ repr 0 t → Ready (read_index (operand k) r (drop (b + s₀.dwords) ds)) (length ds) b (length L₀) (length W₀) row word s₀
+  ready₀ er =
+      let z : b ≡ b + s₀.dwords = omega arith in
+      record {
+        tree = x₀;
+        rest = nodes.r₀;
+        is = (λ i. read_index (operand k) (er i) (drop (sym z i) ds)) ∙ nodes.first;
+        within = omega (arith, h);
+        for_rows = omega (arith, numbers);
+        for_words = omega (arith, numbers);
+        row_fits = omega (arith, numbers);
+        word_fits = omega (arith, numbers);
+        dwords_fit = omega (arith, numbers);
+      }
+
+  module _ {r₀ : ℕ} (e₀ : r₀ ≡ repr 0 t) {L₁ W₁ : List ℕ} {s₁ : Sums} (w₀ : WroteNext (read_index (operand k) r₀ (drop (b + s₀.dwords) ds)) row word s₀ L₀ W₀ s₁ L₁ W₁) where
+    next₀ : Next x₀ row word s₀ L₀ W₀ s₁ L₁ W₁
+    unfolding ready₀
+    next₀ = let p = ready₀ e₀ in w₀ p.tree p.rest p.is
+
+    pub ready₁ : {r : ℕ} → r ≡ repr 1 t → {ops' ws' : ℕ} → ops' ≡ length L₀ → ws' ≡ length W₀ → Ready (read_index (operand k) r (drop (b + s₁.dwords) ds)) (length ds) b ops' ws' row word s₁
+    ready₁ er lo lw =
+        let z : b + length (dwords x₀) ≡ b + s₁.dwords = omega (arith, next₀.dwords_are) in
         record {
-          tree = x₀;
-          rest = nodes.r₀;
-          is = (λ i. read_index (operand k) (er i) (drop (sym z i) ds)) ∙ nodes.first;
-          within = omega (arith, h);
-          for_rows = omega (arith, numbers);
-          for_words = omega (arith, numbers);
-          row_fits = omega (arith, numbers);
-          word_fits = omega (arith, numbers);
-          dwords_fit = omega (arith, numbers);
+          tree = x₁;
+          rest = nodes.r₁;
+          is = (λ i. read_index (operand k) (er i) (drop (sym z i) ds)) ∙ nodes.second;
+          within = omega (arith, next₀, numbers);
+          for_rows = omega (arith, next₀, numbers);
+          for_words = omega (arith, next₀, numbers);
+          row_fits = omega (arith, next₀, numbers);
+          word_fits = omega (arith, next₀, numbers);
+          dwords_fit = omega (arith, next₀, numbers);
         }
 
-    module _ (r₀ : ℕ) (e₀ : r₀ ≡ repr 0 t) {L₀ W₀ L₁ W₁ : List ℕ} {s₁ : Sums} (w₀ : WroteNext (read_index (operand k) r₀ (drop (b + s₀.dwords) ds)) row word s₀ L₀ W₀ s₁ L₁ W₁) where
-      next₀ : Next x₀ row word s₀ L₀ W₀ s₁ L₁ W₁
-      unfolding ready₀
-      next₀ = let p = ready₀ r₀ e₀ in w₀ p.tree p.rest p.is
+    module _ {r₁ : ℕ} (e₁ : r₁ ≡ repr 1 t) {L₂ W₂ : List ℕ} {s₂ : Sums} (w₁ : WroteNext (read_index (operand k) r₁ (drop (b + s₁.dwords) ds)) row word s₁ L₁ W₁ s₂ L₂ W₂) where
+      next₁ : Next x₁ row word s₁ L₁ W₁ s₂ L₂ W₂
+      unfolding ready₁
+      next₁ = let p = ready₁ e₁ refl refl in w₁ p.tree p.rest p.is
 
-      pub ready₁ : (r : ℕ) → r ≡ repr 1 t → {ops' ws' : ℕ} → ops' ≡ ops → ws' ≡ ws → Ready (read_index (operand k) r (drop (b + s₁.dwords) ds)) (length ds) b ops' ws' row word s₁
-      ready₁ r er lo lw =
-          let z : b + length (dwords x₀) ≡ b + s₁.dwords = omega (arith, next₀.dwords_are) in
+      pub ready₂ : {r : ℕ} → r ≡ repr 2 t → {ops' ws' : ℕ} → ops' ≡ length L₀ → ws' ≡ length W₀ → Ready (read_index (operand k) r (drop (b + s₂.dwords) ds)) (length ds) b ops' ws' row word s₂
+      ready₂ er lo lw =
+          let z : b + length (dwords x₀) + length (dwords x₁) ≡ b + s₂.dwords = omega (arith, next₀.dwords_are, next₁.dwords_are) in
           record {
-            tree = x₁;
-            rest = nodes.r₁;
-            is = (λ i. read_index (operand k) (er i) (drop (sym z i) ds)) ∙ nodes.second;
-            within = omega (arith, next₀, numbers);
-            for_rows = omega (arith, next₀, numbers);
-            for_words = omega (arith, next₀, numbers);
-            row_fits = omega (arith, next₀, numbers);
-            word_fits = omega (arith, next₀, numbers);
-            dwords_fit = omega (arith, next₀, numbers);
+            tree = x₂;
+            rest = nodes.r₂;
+            is = (λ i. read_index (operand k) (er i) (drop (sym z i) ds)) ∙ nodes.third;
+            within = omega (arith, next₀, next₁, numbers);
+            for_rows = omega (arith, next₀, next₁, numbers);
+            for_words = omega (arith, next₀, next₁, numbers);
+            row_fits = omega (arith, next₀, next₁, numbers);
+            word_fits = omega (arith, next₀, next₁, numbers);
+            dwords_fit = omega (arith, next₀, next₁, numbers);
           }
 
-      module _ (r₁ : ℕ) (e₁ : r₁ ≡ repr 1 t) {L₂ W₂ : List ℕ} {s₂ : Sums} (w₁ : WroteNext (read_index (operand k) r₁ (drop (b + s₁.dwords) ds)) row word s₁ L₁ W₁ s₂ L₂ W₂) where
-        next₁ : Next x₁ row word s₁ L₁ W₁ s₂ L₂ W₂
-        unfolding ready₁
-        next₁ = let p = ready₁ r₁ e₁ refl refl in w₁ p.tree p.rest p.is
+      module _ {r₂ : ℕ} (e₂ : r₂ ≡ repr 2 t) {L₃ W₃ : List ℕ} {s₃ : Sums} (w₂ : WroteNext (read_index (operand k) r₂ (drop (b + s₂.dwords) ds)) row word s₂ L₂ W₂ s₃ L₃ W₃) where
+        next₂ : Next x₂ row word s₂ L₂ W₂ s₃ L₃ W₃
+        unfolding ready₂
+        next₂ = let p = ready₂ e₂ refl refl in w₂ p.tree p.rest p.is
 
-        pub ready₂ : (r : ℕ) → r ≡ repr 2 t → {ops' ws' : ℕ} → ops' ≡ ops → ws' ≡ ws → Ready (read_index (operand k) r (drop (b + s₂.dwords) ds)) (length ds) b ops' ws' row word s₂
-        ready₂ r er lo lw =
-            let z : b + length (dwords x₀) + length (dwords x₁) ≡ b + s₂.dwords = omega (arith, next₀.dwords_are, next₁.dwords_are) in
-            record {
-              tree = x₂;
-              rest = nodes.r₂;
-              is = (λ i. read_index (operand k) (er i) (drop (sym z i) ds)) ∙ nodes.third;
-              within = omega (arith, next₀, next₁, numbers);
-              for_rows = omega (arith, next₀, next₁, numbers);
-              for_words = omega (arith, next₀, next₁, numbers);
-              row_fits = omega (arith, next₀, next₁, numbers);
-              word_fits = omega (arith, next₀, next₁, numbers);
-              dwords_fit = omega (arith, next₀, next₁, numbers);
-            }
+        module _ (at : ℕ) (ha : at < b) (le : length e ≡ b - (at + 1)) where
+          pub node_sum : b - at + s₃.dwords < 2 ^ 32
+          node_sum = omega (arith, next₀.dwords_are, next₁.dwords_are, next₂.dwords_are, numbers.dwords_fit)
 
-        module _ (r₂ : ℕ) (e₂ : r₂ ≡ repr 2 t) {L₃ W₃ : List ℕ} {s₃ : Sums} (w₂ : WroteNext (read_index (operand k) r₂ (drop (b + s₂.dwords) ds)) row word s₂ L₂ W₂ s₃ L₃ W₃) where
-          next₂ : Next x₂ row word s₂ L₂ W₂ s₃ L₃ W₃
-          unfolding ready₂
-          next₂ = let p = ready₂ r₂ e₂ refl refl in w₂ p.tree p.rest p.is
+          abbrev pub s : Sums
+          s = record { rows = s₃.rows; words = s₃.words; dwords = b - at + s₃.dwords }
 
-          module _ (at : ℕ) (ha : at < b) (le : length e ≡ b - (at + 1)) where
-            pub node_sum : b - at + s₃.dwords < 2 ^ 32
-            node_sum = omega (arith, next₀.dwords_are, next₁.dwords_are, next₂.dwords_are, numbers.dwords_fit)
+          pub node_fits : Fits row word s₁ s₂ s
+          node_fits =
+              record {
+                words₁ = omega (arith, next₁.words_are);
+                words₂ = omega (arith, next₂.words_are);
+                rows₀ = omega (arith, next₀.rows_are);
+                rows₁ = omega (arith, next₁.rows_are);
+                rows₂ = omega (arith, next₂.rows_are);
+                word_fits = omega (arith, next₀.words_are, next₁.words_are, next₂.words_are, numbers.word_fits);
+                row_fits = omega (arith, next₀.rows_are, next₁.rows_are, next₂.rows_are, numbers.row_fits);
+                dwords_fit = omega (arith, node_sum);
+              }
 
-            module _ (s : Sums) (c : s.rows ≡ s₃.rows) (d : s.words ≡ s₃.words) (f : s.dwords ≡ b - at + s₃.dwords) where
-              pub node_fits : Fits row word s₁ s₂ s
-              node_fits =
-                  record {
-                    words₁ = omega (arith, next₁.words_are);
-                    words₂ = omega (arith, next₂.words_are);
-                    rows₀ = omega (arith, next₀.rows_are);
-                    rows₁ = omega (arith, next₁.rows_are);
-                    rows₂ = omega (arith, next₂.rows_are);
-                    word_fits = omega (arith, next₀.words_are, next₁.words_are, next₂.words_are, numbers.word_fits);
-                    row_fits = omega (arith, next₀.rows_are, next₁.rows_are, next₂.rows_are, numbers.row_fits);
-                    dwords_fit = omega (arith, node_sum);
-                  }
+          abbrev T₀ : List ℕ
+          T₀ = tree_table (row + s₀.rows) (word + s₀.words) x₀
 
-              module _ (lo : length L₀ ≡ ops) (lw : length W₀ ≡ ws) where
-                abbrev T₀ : List ℕ
-                T₀ = tree_table (row + s₀.rows) (word + s₀.words) x₀
+          abbrev T₁ : List ℕ
+          T₁ = tree_table (row + s₁.rows) (word + s₁.words) x₁
 
-                abbrev T₁ : List ℕ
-                T₁ = tree_table (row + s₁.rows) (word + s₁.words) x₁
+          abbrev T₂ : List ℕ
+          T₂ = tree_table (row + s₂.rows) (word + s₂.words) x₂
 
-                abbrev T₂ : List ℕ
-                T₂ = tree_table (row + s₂.rows) (word + s₂.words) x₂
+          tables : Over 16 (T₀ ++ T₁ ++ T₂) L₀ L₃
+          tables =
+              let l₀ = table_length (row + s₀.rows) (word + s₀.words) x₀ in
+              let l₁ = table_length (row + s₁.rows) (word + s₁.words) x₁ in
+              let l₂ = table_length (row + s₂.rows) (word + s₂.words) x₂ in
+              let a₀ = length-append T₀ T₁ in
+              let z : 16 * s₀.rows ≡ 16 = refl in
+              let p₀ : Over 16 T₀ L₀ L₁ = subst (λ (n : ℕ). Over n T₀ L₀ L₁) z next₀.rows_put in
+              let p₁ : Over 16 (T₀ ++ T₁) L₀ L₂ = over_more 16 (16 * s₁.rows) T₀ T₁ L₀ L₁ L₂ (omega (arith, numbers.for_rows)) (omega (arith, next₀.rows_are)) p₀ next₁.rows_put in
+              over_more 16 (16 * s₂.rows) (T₀ ++ T₁) T₂ L₀ L₂ L₃ (omega (arith, numbers.for_rows)) (omega (arith, next₀.rows_are, next₁.rows_are)) p₁ next₂.rows_put
 
-                tables : Over 16 (T₀ ++ T₁ ++ T₂) L₀ L₃
-                tables =
-                    let l₀ = table_length (row + s₀.rows) (word + s₀.words) x₀ in
-                    let l₁ = table_length (row + s₁.rows) (word + s₁.words) x₁ in
-                    let l₂ = table_length (row + s₂.rows) (word + s₂.words) x₂ in
-                    let a₀ = length-append T₀ T₁ in
-                    let z : 16 * s₀.rows ≡ 16 = omega arith in
-                    let p₀ : Over 16 T₀ L₀ L₁ = subst (λ (n : ℕ). Over n T₀ L₀ L₁) z next₀.rows_put in
-                    let p₁ : Over 16 (T₀ ++ T₁) L₀ L₂ = over_more 16 (16 * s₁.rows) T₀ T₁ L₀ L₁ L₂ (omega (arith, numbers.for_rows)) (omega (arith, next₀.rows_are)) p₀ next₁.rows_put in
-                    over_more 16 (16 * s₂.rows) (T₀ ++ T₁) T₂ L₀ L₂ L₃ (omega (arith, numbers.for_rows)) (omega (arith, next₀.rows_are, next₁.rows_are)) p₁ next₂.rows_put
+          words : Over 0 (tree_words x₀ ++ tree_words x₁ ++ tree_words x₂) W₀ W₃
+          words =
+              let a₀ = length-append (tree_words x₀) (tree_words x₁) in
+              let p₀ : Over 0 (tree_words x₀) W₀ W₁ = next₀.words_put in
+              let p₁ : Over 0 (tree_words x₀ ++ tree_words x₁) W₀ W₂ = over_more 0 s₁.words (tree_words x₀) (tree_words x₁) W₀ W₁ W₂ (omega (arith, numbers.for_words)) (omega (arith, next₀.words_are)) p₀ next₁.words_put in
+              over_more 0 s₂.words (tree_words x₀ ++ tree_words x₁) (tree_words x₂) W₀ W₂ W₃ (omega (arith, numbers.for_words)) (omega (arith, next₀.words_are, next₁.words_are)) p₁ next₂.words_put
 
-                words : Over 0 (tree_words x₀ ++ tree_words x₁ ++ tree_words x₂) W₀ W₃
-                words =
-                    let a₀ = length-append (tree_words x₀) (tree_words x₁) in
-                    let p₀ : Over 0 (tree_words x₀) W₀ W₁ = subst (λ (n : ℕ). Over n (tree_words x₀) W₀ W₁) d₀ next₀.words_put in
-                    let p₁ : Over 0 (tree_words x₀ ++ tree_words x₁) W₀ W₂ = over_more 0 s₁.words (tree_words x₀) (tree_words x₁) W₀ W₁ W₂ (omega (arith, numbers.for_words)) (omega (arith, next₀.words_are)) p₀ next₁.words_put in
-                    over_more 0 s₂.words (tree_words x₀ ++ tree_words x₁) (tree_words x₂) W₀ W₂ W₃ (omega (arith, numbers.for_words)) (omega (arith, next₀.words_are, next₁.words_are)) p₁ next₂.words_put
-
-                pub node_put : (x : ℕ) → x ≡ modifiers e → (L₄ R : List ℕ) → R ≡ row_for t x word (word + s₁.words) (word + s₂.words) (row + 1) (row + s₁.rows) (row + s₂.rows) s.rows s.dwords
-                    → L₄ ≡ R ++ drop 16 L₃ → Wrote (read_indices (operand k) t e (drop b ds)) row word L₀ W₀ s L₄ W₃
-                unfolding tree_rows tree_words dwords tree_table
-                node_put x ex L₄ R er el =
-                    let n₀ = next₀ in
-                    let n₁ = next₁ in
-                    let n₂ = next₂ in
-                    let g : Tree = node t e [] x₀ x₁ x₂ in
-                    let D : List ℕ = drop (16 * tree_rows g) L₀ in
-                    let l₀ = table_length (row + s₀.rows) (word + s₀.words) x₀ in
-                    let l₁ = table_length (row + s₁.rows) (word + s₁.words) x₁ in
-                    let l₂ = table_length (row + s₂.rows) (word + s₂.words) x₂ in
-                    let a₀ = length-append T₀ T₁ in
-                    let a₁ = length-append (T₀ ++ T₁) T₂ in
-                    let er₃ : s.rows ≡ 1 + tree_rows x₀ + tree_rows x₁ + tree_rows x₂ = omega arith in
-                    let lg : length ([] ++ tree_words x₀ ++ tree_words x₁ ++ tree_words x₂) ≡ s.words = simp length-append (omega arith) in
-                    let ld : length (t ∷ e ++ [] ++ dwords x₀ ++ dwords x₁ ++ dwords x₂) ≡ s.dwords = simp length-append (omega arith) in
-                    let p : R ≡ operand_row row word t e [] x₀ x₁ x₂ =
-                    er ∙ row_of row word t x e x₀ x₁ x₂ word (word + s₁.words) (word + s₂.words) (row + 1) (row + s₁.rows) (row + s₂.rows) s.rows s.dwords ex (omega arith) (omega arith) (omega arith) refl (omega arith) (omega arith) er₃ (sym ld) in
-                    let z : 16 + length (T₀ ++ T₁ ++ T₂) ≡ 16 * (1 + tree_rows x₀ + tree_rows x₁ + tree_rows x₂) = omega arith in
-                    let k₀ : row + s₀.rows ≡ row + 1 = omega arith in
-                    let k₁ : row + s₁.rows ≡ row + 1 + tree_rows x₀ = omega arith in
-                    let k₂ : row + s₂.rows ≡ row + 1 + tree_rows x₀ + tree_rows x₁ = omega arith in
-                    let v₀ : word + s₀.words ≡ word + 0 = omega arith in
-                    let v₁ : word + s₁.words ≡ word + 0 + length (tree_words x₀) = omega arith in
-                    let v₂ : word + s₂.words ≡ word + 0 + length (tree_words x₀) + length (tree_words x₁) = omega arith in
-                    wrote_of q.tree q.rest q.is
-                    (subst (λ (u : Tree). Put u row word L₀ W₀ s L₄ W₃) (sym nodes.is)
-                    record {
-                      rows_are = er₃;
-                      words_are = sym lg;
-                      dwords_are = sym ld;
-                      rows_put =
-                          row_before R (T₀ ++ T₁ ++ T₂) L₀ L₃ L₄ (omega (arith, numbers.for_rows)) tables el
-                          ∙ ap (λ (l : List ℕ). l ++ drop (16 + length (T₀ ++ T₁ ++ T₂)) L₀) (sym (append_assoc R (T₀ ++ T₁) T₂) ∙ ap (λ (l : List ℕ). l ++ T₂) (sym (append_assoc R T₀ T₁)))
-                          ∙ (λ i. p i ++ tree_table (k₀ i) (v₀ i) x₀ ++ tree_table (k₁ i) (v₁ i) x₁ ++ tree_table (k₂ i) (v₂ i) x₂ ++ drop (z i) L₀);
-                      words_put = over_front (tree_words x₀ ++ tree_words x₁ ++ tree_words x₂) W₀ W₃ words;
-                    })
+          pub node_put : {x : ℕ} → x ≡ modifiers e → {L₄ R : List ℕ} → R ≡ row_for t x word (word + s₁.words) (word + s₂.words) (row + 1) (row + s₁.rows) (row + s₂.rows) s.rows s.dwords
+              → L₄ ≡ R ++ drop 16 L₃ → Wrote (read_indices (operand k) t e (drop b ds)) row word L₀ W₀ s L₄ W₃
+          unfolding tree_rows tree_words dwords tree_table
+          node_put {x} ex {L₄} {R} er el =
+              let n₀ = next₀ in
+              let n₁ = next₁ in
+              let n₂ = next₂ in
+              let g : Tree = node t e [] x₀ x₁ x₂ in
+              let D : List ℕ = drop (16 * tree_rows g) L₀ in
+              let l₀ = table_length (row + s₀.rows) (word + s₀.words) x₀ in
+              let l₁ = table_length (row + s₁.rows) (word + s₁.words) x₁ in
+              let l₂ = table_length (row + s₂.rows) (word + s₂.words) x₂ in
+              let a₀ = length-append T₀ T₁ in
+              let a₁ = length-append (T₀ ++ T₁) T₂ in
+              let er₃ : s.rows ≡ 1 + tree_rows x₀ + tree_rows x₁ + tree_rows x₂ = omega arith in
+              let lg : length ([] ++ tree_words x₀ ++ tree_words x₁ ++ tree_words x₂) ≡ s.words = simp length-append (omega arith) in
+              let ld : length (t ∷ e ++ [] ++ dwords x₀ ++ dwords x₁ ++ dwords x₂) ≡ s.dwords = simp length-append (omega arith) in
+              let p : R ≡ operand_row row word t e [] x₀ x₁ x₂ =
+              er ∙ row_of row word t x e x₀ x₁ x₂ word (word + s₁.words) (word + s₂.words) (row + 1) (row + s₁.rows) (row + s₂.rows) s.rows s.dwords ex (omega arith) (omega arith) (omega arith) refl (omega arith) (omega arith) er₃ (sym ld) in
+              let z : 16 + length (T₀ ++ T₁ ++ T₂) ≡ 16 * (1 + tree_rows x₀ + tree_rows x₁ + tree_rows x₂) = omega arith in
+              let k₀ : row + s₀.rows ≡ row + 1 = omega arith in
+              let k₁ : row + s₁.rows ≡ row + 1 + tree_rows x₀ = omega arith in
+              let k₂ : row + s₂.rows ≡ row + 1 + tree_rows x₀ + tree_rows x₁ = omega arith in
+              let v₀ : word + s₀.words ≡ word + 0 = omega arith in
+              let v₁ : word + s₁.words ≡ word + 0 + length (tree_words x₀) = omega arith in
+              let v₂ : word + s₂.words ≡ word + 0 + length (tree_words x₀) + length (tree_words x₁) = omega arith in
+              wrote_of q.tree q.rest q.is
+              (subst (λ (u : Tree). Put u row word L₀ W₀ s L₄ W₃) (sym nodes.is)
+              record {
+                rows_are = er₃;
+                words_are = sym lg;
+                dwords_are = sym ld;
+                rows_put =
+                    row_before R (T₀ ++ T₁ ++ T₂) L₀ L₃ L₄ (omega (arith, numbers.for_rows)) tables el
+                    ∙ ap (λ (l : List ℕ). l ++ drop (16 + length (T₀ ++ T₁ ++ T₂)) L₀) (sym (append_assoc R (T₀ ++ T₁) T₂) ∙ ap (λ (l : List ℕ). l ++ T₂) (sym (append_assoc R T₀ T₁)))
+                    ∙ (λ i. p i ++ tree_table (k₀ i) (v₀ i) x₀ ++ tree_table (k₁ i) (v₁ i) x₁ ++ tree_table (k₂ i) (v₂ i) x₂ ++ drop (z i) L₀);
+                words_put = over_front (tree_words x₀ ++ tree_words x₁ ++ tree_words x₂) W₀ W₃ words;
+              })

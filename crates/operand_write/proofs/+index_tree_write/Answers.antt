@@ -1,11 +1,11 @@
-use mathlib.Core.Path.{◌∙◌, refl, sym}
+use mathlib.Core.Path.{◌∙◌, sym}
 use native.Mathlib.Omega.{arith}
 use lib.Seq.{slice, length-slice}
 use Rattle.format.specs.Dwords.{dwords_of}
 use Rattle.format.proofs.Dwords.{length_dwords}
 use Rattle.operand_write.proofs.Readings.{inside, chained, to, entered}
 use Rattle.operand_write.proofs.Writing.{short_room, short_wrote, leaf_room, leaf_wrote, flat_room, flat_wrote, tree_room, tree_wrote, counted, own_room, child_room, child_put, flat_put, nested_put, numbers, ready₀, ready₁, ready₂, node_sum, node_fits, node_put}
-use Prim.Native.Nat.{◌+◌, ◌-◌, ◌*◌}
+use Prim.Native.Nat.{◌+◌, ◌-◌}
 use Rattle.std.proofs.Common.{ap, not}
 use Rattle.operand_write.proofs.+index_tree_write.Goals as goal
 
@@ -40,61 +40,61 @@ pub write-returns : goal.write-returns
 write-returns t c = let a = c.args in let o = entered a.left (dwords_of a.part.now) a.at c.requires.is _ c.dword-token.ensures _ c.follows.ensures _ (sym c.unwrap-body.ensures ∙ c.chain.ensures) _ c.modifiers_of.ensures in tree_wrote o c.requires _ c.immediate.ensures c.if-immediate.false c.tree.ensures
 
 pub index-own_words-next-requires : goal.index-own_words-next-requires
-index-own_words-next-requires t c = let a = c.args in own_room (a.left - 1) (dwords_of a.part.now) a.r a.at c.requires.1
+index-own_words-next-requires t c = let a = c.args in own_room (a.left - 1) (dwords_of a.part.now) a.r a.at _ _ c.requires.1
 
 pub index-returns-then-not-nests : goal.index-returns-then-not-nests
-index-returns-then-not-nests t c = let a = c.args in flat_put (a.left - 1) (dwords_of a.part.now) a.r a.at c.requires.1 _ c.nests.ensures c.own_words-next.ensures (ap not c.if-not-nests.true) _
+index-returns-then-not-nests t c = let a = c.args in flat_put (a.left - 1) (dwords_of a.part.now) a.r a.at _ _ c.requires.1 c.nests.ensures c.own_words-next.ensures (ap not c.if-not-nests.true)
 
 pub index-overflow_add-at : goal.index-overflow_add-at
-index-overflow_add-at t c = let a = c.args in omega (arith, counted (a.left - 1) (dwords_of a.part.now) a.r a.at c.requires.1, c.own_words-next.ensures, length_dwords a.part.now)
+index-overflow_add-at t c = let a = c.args in omega (arith, counted (a.left - 1) (dwords_of a.part.now) a.r a.at _ _ c.requires.1, c.own_words-next.ensures, length_dwords a.part.now)
 
 pub index-offset_bounds-words-next : goal.index-offset_bounds-words-next
-index-offset_bounds-words-next t c = let a = c.args in omega (arith, counted (a.left - 1) (dwords_of a.part.now) a.r a.at c.requires.1, c.own_words-next.ensures, length_dwords a.part.now)
+index-offset_bounds-words-next t c = let a = c.args in omega (arith, counted (a.left - 1) (dwords_of a.part.now) a.r a.at _ _ c.requires.1, c.own_words-next.ensures, length_dwords a.part.now)
 
 pub index-slice_bounds-write-count-2 : goal.index-slice_bounds-write-count-2
-index-slice_bounds-write-count-2 t c = let a = c.args in omega (arith, counted (a.left - 1) (dwords_of a.part.now) a.r a.at c.requires.1, c.own_words-next.ensures, length_dwords a.part.now, c.own_words-next.auto.words)
+index-slice_bounds-write-count-2 t c = let a = c.args in omega (arith, counted (a.left - 1) (dwords_of a.part.now) a.r a.at _ _ c.requires.1, c.own_words-next.ensures, length_dwords a.part.now, c.own_words-next.auto.words)
 
 pub index-slice_bounds-write-start-2 : goal.index-slice_bounds-write-start-2
-index-slice_bounds-write-start-2 t c = let a = c.args in omega (arith, counted (a.left - 1) (dwords_of a.part.now) a.r a.at c.requires.1, c.own_words-next.ensures, length_dwords a.part.now, c.own_words-next.auto.words)
+index-slice_bounds-write-start-2 t c = let a = c.args in omega (arith, counted (a.left - 1) (dwords_of a.part.now) a.r a.at _ _ c.requires.1, c.own_words-next.ensures, length_dwords a.part.now, c.own_words-next.auto.words)
 
 pub index-overflow_add-word : goal.index-overflow_add-word
-index-overflow_add-word t c = let a = c.args in omega (arith, counted (a.left - 1) (dwords_of a.part.now) a.r a.at c.requires.1, c.own_words-next.ensures, length_dwords a.part.now)
+index-overflow_add-word t c = let a = c.args in omega (arith, counted (a.left - 1) (dwords_of a.part.now) a.r a.at _ _ c.requires.1, c.own_words-next.ensures, length_dwords a.part.now)
 
 pub index-write-x-requires : goal.index-write-x-requires
-index-write-x-requires t c = let a = c.args in (omega (arith, c.requires), child_room (a.left - 1) (dwords_of a.part.now) a.r a.at c.requires.1 _ c.nests.ensures c.own_words-next.ensures (ap not c.if-not-nests.false) a.ops.now (c.own_words-next.result.rows * 16) refl c.own_words-next.auto.words (omega arith))
+index-write-x-requires t c = let a = c.args in (omega (arith, c.requires), child_room (a.left - 1) (dwords_of a.part.now) a.r a.at _ _ c.requires.1 c.nests.ensures c.own_words-next.ensures (ap not c.if-not-nests.false) c.own_words-next.auto.words)
 
 pub index-overflow_add-result : goal.index-overflow_add-result
-index-overflow_add-result t c = let a = c.args in omega (arith, counted (a.left - 1) (dwords_of a.part.now) a.r a.at c.requires.1, c.own_words-next.ensures, length_dwords a.part.now, child_put (a.left - 1) (dwords_of a.part.now) a.r a.at c.requires.1 _ c.nests.ensures c.own_words-next.ensures (ap not c.if-not-nests.false) c.write-x.ensures)
+index-overflow_add-result t c = let a = c.args in omega (arith, counted (a.left - 1) (dwords_of a.part.now) a.r a.at _ _ c.requires.1, c.own_words-next.ensures, length_dwords a.part.now, child_put (a.left - 1) (dwords_of a.part.now) a.r a.at _ _ c.requires.1 c.nests.ensures c.own_words-next.ensures (ap not c.if-not-nests.false) c.write-x.ensures)
 
 pub index-overflow_add-result-2 : goal.index-overflow_add-result-2
-index-overflow_add-result-2 t c = let a = c.args in omega (arith, counted (a.left - 1) (dwords_of a.part.now) a.r a.at c.requires.1, c.own_words-next.ensures, length_dwords a.part.now, child_put (a.left - 1) (dwords_of a.part.now) a.r a.at c.requires.1 _ c.nests.ensures c.own_words-next.ensures (ap not c.if-not-nests.false) c.write-x.ensures)
+index-overflow_add-result-2 t c = let a = c.args in omega (arith, counted (a.left - 1) (dwords_of a.part.now) a.r a.at _ _ c.requires.1, c.own_words-next.ensures, length_dwords a.part.now, child_put (a.left - 1) (dwords_of a.part.now) a.r a.at _ _ c.requires.1 c.nests.ensures c.own_words-next.ensures (ap not c.if-not-nests.false) c.write-x.ensures)
 
 pub index-overflow_add-result-3 : goal.index-overflow_add-result-3
-index-overflow_add-result-3 t c = let a = c.args in omega (arith, counted (a.left - 1) (dwords_of a.part.now) a.r a.at c.requires.1, c.own_words-next.ensures, length_dwords a.part.now, child_put (a.left - 1) (dwords_of a.part.now) a.r a.at c.requires.1 _ c.nests.ensures c.own_words-next.ensures (ap not c.if-not-nests.false) c.write-x.ensures)
+index-overflow_add-result-3 t c = let a = c.args in omega (arith, counted (a.left - 1) (dwords_of a.part.now) a.r a.at _ _ c.requires.1, c.own_words-next.ensures, length_dwords a.part.now, child_put (a.left - 1) (dwords_of a.part.now) a.r a.at _ _ c.requires.1 c.nests.ensures c.own_words-next.ensures (ap not c.if-not-nests.false) c.write-x.ensures)
 
 pub index-returns : goal.index-returns
-index-returns t c = let a = c.args in nested_put (a.left - 1) (dwords_of a.part.now) a.r a.at c.requires.1 _ c.nests.ensures c.own_words-next.ensures (ap not c.if-not-nests.false) _ _ refl refl refl _ _ _ refl _ (omega arith) c.write-x.ensures
+index-returns t c = let a = c.args in nested_put (a.left - 1) (dwords_of a.part.now) a.r a.at _ _ c.requires.1 c.nests.ensures c.own_words-next.ensures (ap not c.if-not-nests.false) c.write-x.ensures
 
 pub tree-index-a-requires : goal.tree-index-a-requires
-tree-index-a-requires t c = let f = c.args.front.now in (omega (arith, c.requires), (c.requires.0, ready₀ (c.args.left - 1) (dwords_of f.part.now) f.token (slice (f.at + 1) f.body (dwords_of f.part.now)) f.body c.requires.2 c.requires.1.within _ refl refl refl _ c.repr-r0.ensures))
+tree-index-a-requires t c = let f = c.args.front.now in (omega (arith, c.requires), (c.requires.0, ready₀ (c.args.left - 1) (dwords_of f.part.now) f.token (slice (f.at + 1) f.body (dwords_of f.part.now)) f.body _ _ c.requires.2 c.requires.1.within c.repr-r0.ensures))
 
 pub tree-index-b-requires : goal.tree-index-b-requires
-tree-index-b-requires t c = let f = c.args.front.now in (omega (arith, c.requires), (c.requires.0, ready₁ (c.args.left - 1) (dwords_of f.part.now) f.token (slice (f.at + 1) f.body (dwords_of f.part.now)) f.body c.requires.2 c.requires.1.within _ refl refl refl _ c.repr-r0.ensures c.index-a.ensures _ c.repr-r1.ensures c.index-a.auto.ops c.index-a.auto.words))
+tree-index-b-requires t c = let f = c.args.front.now in (omega (arith, c.requires), (c.requires.0, ready₁ (c.args.left - 1) (dwords_of f.part.now) f.token (slice (f.at + 1) f.body (dwords_of f.part.now)) f.body _ _ c.requires.2 c.requires.1.within c.repr-r0.ensures c.index-a.ensures c.repr-r1.ensures c.index-a.auto.ops c.index-a.auto.words))
 
 pub tree-index-c-requires : goal.tree-index-c-requires
-tree-index-c-requires t c = let f = c.args.front.now in (omega (arith, c.requires), (c.requires.0, ready₂ (c.args.left - 1) (dwords_of f.part.now) f.token (slice (f.at + 1) f.body (dwords_of f.part.now)) f.body c.requires.2 c.requires.1.within _ refl refl refl _ c.repr-r0.ensures c.index-a.ensures _ c.repr-r1.ensures c.index-b.ensures _ c.repr-r2.ensures (c.index-b.auto.ops ∙ c.index-a.auto.ops) (c.index-b.auto.words ∙ c.index-a.auto.words)))
+tree-index-c-requires t c = let f = c.args.front.now in (omega (arith, c.requires), (c.requires.0, ready₂ (c.args.left - 1) (dwords_of f.part.now) f.token (slice (f.at + 1) f.body (dwords_of f.part.now)) f.body _ _ c.requires.2 c.requires.1.within c.repr-r0.ensures c.index-a.ensures c.repr-r1.ensures c.index-b.ensures c.repr-r2.ensures (c.index-b.auto.ops ∙ c.index-a.auto.ops) (c.index-b.auto.words ∙ c.index-a.auto.words)))
 
 pub tree-overflow_add-sums : goal.tree-overflow_add-sums
-tree-overflow_add-sums t c = let f = c.args.front.now in omega (arith, node_sum (c.args.left - 1) (dwords_of f.part.now) f.token (slice (f.at + 1) f.body (dwords_of f.part.now)) f.body c.requires.2 c.requires.1.within _ refl refl refl _ c.repr-r0.ensures c.index-a.ensures _ c.repr-r1.ensures c.index-b.ensures _ c.repr-r2.ensures c.index-c.ensures f.at c.requires.1.from (length-slice (f.at + 1) f.body (dwords_of f.part.now) c.requires.1.within))
+tree-overflow_add-sums t c = let f = c.args.front.now in omega (arith, node_sum (c.args.left - 1) (dwords_of f.part.now) f.token (slice (f.at + 1) f.body (dwords_of f.part.now)) f.body _ _ c.requires.2 c.requires.1.within c.repr-r0.ensures c.index-a.ensures c.repr-r1.ensures c.index-b.ensures c.repr-r2.ensures c.index-c.ensures f.at c.requires.1.from (length-slice (f.at + 1) f.body (dwords_of f.part.now) c.requires.1.within))
 
 pub tree-make_row-made-requires : goal.tree-make_row-made-requires
-tree-make_row-made-requires t c = let f = c.args.front.now in node_fits (c.args.left - 1) (dwords_of f.part.now) f.token (slice (f.at + 1) f.body (dwords_of f.part.now)) f.body c.requires.2 c.requires.1.within _ refl refl refl _ c.repr-r0.ensures c.index-a.ensures _ c.repr-r1.ensures c.index-b.ensures _ c.repr-r2.ensures c.index-c.ensures f.at c.requires.1.from (length-slice (f.at + 1) f.body (dwords_of f.part.now) c.requires.1.within) _ refl refl refl
+tree-make_row-made-requires t c = let f = c.args.front.now in node_fits (c.args.left - 1) (dwords_of f.part.now) f.token (slice (f.at + 1) f.body (dwords_of f.part.now)) f.body _ _ c.requires.2 c.requires.1.within c.repr-r0.ensures c.index-a.ensures c.repr-r1.ensures c.index-b.ensures c.repr-r2.ensures c.index-c.ensures f.at c.requires.1.from (length-slice (f.at + 1) f.body (dwords_of f.part.now) c.requires.1.within)
 
 pub tree-put_row-requires : goal.tree-put_row-requires
-tree-put_row-requires t c = let f = c.args.front.now in omega (arith, (numbers (c.args.left - 1) (dwords_of f.part.now) f.token (slice (f.at + 1) f.body (dwords_of f.part.now)) f.body c.requires.2 c.requires.1.within).for_rows, c.index-a.auto.ops, c.index-b.auto.ops, c.index-c.auto.ops)
+tree-put_row-requires t c = let f = c.args.front.now in omega (arith, (numbers (c.args.left - 1) (dwords_of f.part.now) f.token (slice (f.at + 1) f.body (dwords_of f.part.now)) f.body _ _ c.requires.2 c.requires.1.within).for_rows, c.index-a.auto.ops, c.index-b.auto.ops, c.index-c.auto.ops)
 
 pub tree-returns : goal.tree-returns
-tree-returns t c = let f = c.args.front.now in node_put (c.args.left - 1) (dwords_of f.part.now) f.token (slice (f.at + 1) f.body (dwords_of f.part.now)) f.body c.requires.2 c.requires.1.within _ refl refl refl _ c.repr-r0.ensures c.index-a.ensures _ c.repr-r1.ensures c.index-b.ensures _ c.repr-r2.ensures c.index-c.ensures f.at c.requires.1.from (length-slice (f.at + 1) f.body (dwords_of f.part.now) c.requires.1.within) _ refl refl refl refl refl _ c.requires.1.modified _ _ (c.words.ensures ∙ c.make_row-made.ensures) c.put_row.ensures
+tree-returns t c = let f = c.args.front.now in node_put (c.args.left - 1) (dwords_of f.part.now) f.token (slice (f.at + 1) f.body (dwords_of f.part.now)) f.body _ _ c.requires.2 c.requires.1.within c.repr-r0.ensures c.index-a.ensures c.repr-r1.ensures c.index-b.ensures c.repr-r2.ensures c.index-c.ensures f.at c.requires.1.from (length-slice (f.at + 1) f.body (dwords_of f.part.now) c.requires.1.within) c.requires.1.modified (c.words.ensures ∙ c.make_row-made.ensures) c.put_row.ensures
 
 pub write-single-requires : goal.write-single-requires
 write-single-requires t c = let a = c.args in short_room a.left (dwords_of a.part.now) a.at c.requires _ c.dword-token.ensures c.short.ensures c.if-short.true
