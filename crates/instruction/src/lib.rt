@@ -157,7 +157,7 @@ fn operands_of(part: &[u8], from: usize, count: u32) -> Option<Operands>
                 more += other.rows;
                 skipped += other.skipped;
                 end += other.dwords;
-                exact = exact & other.exact;
+                exact &= other.exact;
             }
         }
     }

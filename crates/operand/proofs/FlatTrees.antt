@@ -1,13 +1,13 @@
 -- Laws of an operand whose indices are one dword each.
 use Prim.Native.Nat.{ℕ, zero, suc, ◌+◌, ◌-◌, ◌*◌, ◌<◌, ◌≤◌}
 use mathlib.Core.Path.{◌≡◌, refl, sym, ◌∙◌, ap}
-use mathlib.Core.Bool.{Bool, cond, ◌&&◌, and-true}
+use mathlib.Core.Bool.{Bool, true, false, cond, ◌&&◌, and-true}
 use mathlib.Core.List.{List, [], ◌∷◌}
 use native.Mathlib.Omega.{arith}
 use lib.ListN.{length, take, drop, length-append, length-drop}
 use lib.Seq.{slice, length-slice, drop-drop}
 use lib.Dec.{ltb}
-use borrow.Author.Tests.{le-ltb, lt-ltb}
+use borrow.Author.Tests.{le-ltb, lt-ltb, ltb-true, ltb-false}
 use Rattle.format.specs.Dwords.{bits_from, malformed, got, Reader, some}
 use Rattle.format.specs.Operands.{Tree, none, plain, node, dimension, reprs, repr, own, nests, known, read_index, read_indices, dwords, exact, exact_dword, exact_extension}
 use Rattle.format.specs.Rows.{tree_rows, tree_words}
@@ -111,3 +111,10 @@ module _ {ds : List ℕ} {at t b : ℕ} {x : Bool} (s : Stands ds at t b x) (f :
       let w : d ≡ length (tree_words (flat_tree t e ws)) = ed ∙ sym lw ∙ sym (ap length (flat_words t e ws k)) in
       let n : b - at + d ≡ length (dwords (flat_tree t e ws)) = omega (arith, flat_dwords t e ws k, s.from) in
       (λ i. read 1 (w i) (n i) ((s.good ∙ flat_exact t e ws) i)) ∙ sym (ap measured (flat_read t f p e ds b (omega arith)))
+
+  pub flat_words_measured : AnyDepth (cond (ltb (n - b) d) None (read 1 d (b - at + d) x)) t (slice (at + 1) b ds) (drop b ds)
+  flat_words_measured = go (ltb (n - b) d) refl
+    where
+      go : (c : Bool) → ltb (n - b) d ≡ c → AnyDepth (cond c None (read 1 d (b - at + d) x)) t (slice (at + 1) b ds) (drop b ds)
+      go true q = measured_short (ltb-true (n - b) d q)
+      go false q = measured_flat (ltb-false (n - b) d q)

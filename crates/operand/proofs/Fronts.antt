@@ -161,6 +161,13 @@ module _ {ds : List ℕ} {at t b : ℕ} {x : Bool} (s : Stands ds at t b x) (d :
         let g : (exact_dword t && exact_extension e) ≡ (exact_dword t && exact_extension e && true && true && true) = simp and-true in
         (λ j. read 1 (w j) (n j) ((s.good ∙ g) j)) ∙ sym (rw (← ed, eq-eqb d 0 hd, ← em, some_whole m ds b (omega (arith, s.within))))
 
+    pub leaf_words : cond (ltb (n - b) m) None (read 1 m (b - at + m) x) ≡ measured (read_immediates t (slice (at + 1) b ds) (drop b ds))
+    leaf_words = go (ltb (n - b) m) refl
+      where
+        go : (c : Bool) → ltb (n - b) m ≡ c → cond c None (read 1 m (b - at + m) x) ≡ measured (read_immediates t (slice (at + 1) b ds) (drop b ds))
+        go true q = leaf_short (ltb-true (n - b) m q)
+        go false q = leaf_read (ltb-false (n - b) m q)
+
 -- an operand with the dword t is measured by what stands behind its front
 module _ {left : ℕ} {ds : List ℕ} {at t b : ℕ} {x : Bool} (o : Opened left ds at t b x) (m : Bool) (em : m ≡ immediate t) {a : Option Measured} where
   pub leaf_is : m ≡ true → a ≡ measured (read_immediates t (slice (at + 1) b ds) (drop b ds)) → a ≡ measured (operand left (drop at ds))

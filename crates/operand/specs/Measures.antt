@@ -1,5 +1,5 @@
 -- What measuring an operand answers.
-use Rattle.std.specs.Prelude.{ℕ, zero, suc, ◌+◌, ◌≡◌, Bool, ◌&&◌, List, length, drop, Option, Some, None}
+use Rattle.std.specs.Prelude.{ℕ, zero, suc, ◌+◌, ◌-◌, ◌≡◌, Bool, cond, ltb, ◌&&◌, List, length, drop, Option, Some, None}
 use Rattle.std.proofs.Math.Seq.{slice}
 use Rattle.format.specs.Dwords.{dwords_of, bits, follows, Got, malformed, got, Reader, ◌>>=◌, give, fail, dword, chain}
 use Rattle.format.specs.Operands.{Tree, read_indices, dwords, exact, exact_dword, exact_extension}
@@ -40,6 +40,10 @@ extensions f = slice (f.at + 1) f.body (dwords_of f.part.now)
 
 abbrev pub behind : Front → List ℕ
 behind f = drop f.body (dwords_of f.part.now)
+
+-- an operand of k words behind a front, in which no operand stands; none if its part ends before
+abbrev pub with_words : Front → ℕ → Option Measured
+with_words f k = cond (ltb (length (dwords_of f.part.now) - f.body) k) None (read 1 k (f.body - f.at + k) f.exact)
 
 -- the bits of the representations are zero: each index is one dword
 abbrev pub Flat : ℕ → Type 0

@@ -45,15 +45,12 @@ impl<'a> Front<'a> {
         })
     }
 
-    // Measures an operand of immediates.
-    pub fn leaf(&self) -> Option<Measured>
-        ensures { result ≡ m.measured (op.read_immediates self.now.token (m.extensions self.now) (m.behind self.now)) }
+    // Measures an operand of so many words, in which no operand stands; none if its part ends before.
+    fn with_words(&self, words: usize) -> Option<Measured>
+        ensures { result ≡ m.with_words self.now words }
     {
-        if tokens::dimension(self.token) != 0 {
-            return None;
-        }
-        let words = tokens::immediates(self.token);
-        if tokens::dwords(self.part) - self.body < words {
+        let left = tokens::dwords(self.part) - self.body;
+        if left < words {
             return None;
         }
         Some(Measured {
@@ -64,22 +61,22 @@ impl<'a> Front<'a> {
         })
     }
 
+    // Measures an operand of immediates.
+    pub fn leaf(&self) -> Option<Measured>
+        ensures { result ≡ m.measured (op.read_immediates self.now.token (m.extensions self.now) (m.behind self.now)) }
+    {
+        if tokens::dimension(self.token) != 0 {
+            return None;
+        }
+        self.with_words(tokens::immediates(self.token))
+    }
+
     // Measures an operand whose indices are one dword each.
     pub fn flat(&self) -> Option<Measured>
         requires { m.Flat self.now.token }
         ensures { m.AnyDepth result self.now.token (m.extensions self.now) (m.behind self.now) }
     {
-        let indices = tokens::dimension(self.token) as usize;
-        let left = tokens::dwords(self.part) - self.body;
-        if left < indices {
-            return None;
-        }
-        Some(Measured {
-            rows: 1,
-            words: indices,
-            dwords: self.body - self.at + indices,
-            exact: self.exact,
-        })
+        self.with_words(tokens::dimension(self.token) as usize)
     }
 
     // Measures an operand by its indices, one after the other.
@@ -97,7 +94,7 @@ impl<'a> Front<'a> {
             rows += m.rows;
             words += m.words;
             place += m.dwords;
-            exact = exact & m.exact;
+            exact &= m.exact;
         }
         Some(Measured {
             rows,
