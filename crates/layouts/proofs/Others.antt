@@ -6,6 +6,8 @@ use mathlib.Core.List.{List, [], ◌∷◌, ◌++◌, map}
 use mathlib.Core.Option as m
 use mathlib.Core.Option.{none, some}
 use native.Mathlib.Omega.{arith}
+use Rattle.std.proofs.lemmas.Bool.Decides.{nat_tests}
+use mathlib.Core.Bool.{or-false}
 use lib.Dec.{eqb, leb, ltb}
 use lib.ListN.{length, get_or, drop, replicate}
 use borrow.Author.Tests.{leb-true, ne_eqb, le-leb, lt-ltb, le-ltb}
@@ -16,7 +18,7 @@ use Rattle.format.proofs.Dwords.{impossible}
 use Rattle.layouts.specs.declared.Kind.TheVariants.{Counted, Opaque, Phase, CustomData}
 use Rattle.layouts.specs.Shapes.{counted, field_of, items_of, Laid}
 use Rattle.layouts.specs.Table.{row_of, plain_shape, width_of}
-use Rattle.layouts.proofs.Lines.{by_runs, line}
+use Rattle.layouts.proofs.Lines.{line}
 use Rattle.format.proofs.Each.{below, absent, member}
 use Rattle.layouts.proofs.Shapes.{plain_sound}
 
@@ -66,10 +68,14 @@ laid_by_count c n e =
     let z : n - 0 ≡ n = omega arith in
     member layout (λ x. by_count x (some n)) (line n) all c (rw z at (line_in operand_counts 0 c n e))
 
+within_two : (c a b : ℕ) → within c (a ∷ b ∷ []) ≡ (eqb c a || eqb c b)
+unfolding within
+within_two c a b = simp or-false
+
 -- 113 to 116
 among_phases : (c : ℕ) → within c (113 ‥ 116) ≡ (leb 113 c && ltb c 117)
 unfolding numbers within
-among_phases c = sym (by_runs (113 ‥ 116) refl c)
+among_phases c = grind (arith, nat_tests)
 
 module _ (c : ℕ) where
   -- a code with no row, no phase and no custom data: as it is counted
@@ -106,7 +112,7 @@ module _ (c : ℕ) where
       shown f = record { kind = 1; field = f; items = replicate n o ++ tail ∷ [] }
 
       fields : cond (within c (61 ∷ 111 ∷ [])) (from 11 12) (cond (eqb c 190) (from 11 14) no) ≡ field_of (plain_shape Counted (width_of c) n true)
-      fields = rw (sym (by_runs (61 ∷ 111 ∷ []) refl c)) (go (eqb c 61 || eqb c 111) (eqb c 190))
+      fields = rw (within_two c 61 111) (go (eqb c 61 || eqb c 111) (eqb c 190))
         where
           go : (a b : Bool) → cond a (from 11 12) (cond b (from 11 14) no) ≡ field_of (plain_shape Counted (cond a 2 (cond b 4 0)) n true)
           go true b = refl
