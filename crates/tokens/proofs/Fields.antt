@@ -1,14 +1,12 @@
 -- Laws of the fields of a dword, over plain numbers.
-use Prim.Native.Nat.{ℕ, zero, suc, ◌+◌, ◌*◌, ◌-◌, ◌/◌, ◌%◌, ◌^◌, ◌<◌}
+use Prim.Native.Nat.{ℕ, zero, suc, ◌*◌, ◌-◌, ◌/◌, ◌^◌, ◌<◌}
 use mathlib.Core.Path.{◌≡◌, refl, ap, ◌∙◌}
 use mathlib.Core.List.{[], ◌∷◌}
-use mathlib.Core.Bool.{Bool, true, false, cond, ◌&&◌}
 use lib.ListN.{get_or}
-use lib.Dec.{eqb, ltb}
 use lib.Bits.{bit_and, and_mask}
 use native.Mathlib.Omega.{arith}
-use borrow.Author.Tests.{ltb-true}
-use Rattle.format.specs.Dwords.{bits, bits_from}
+use Rattle.std.proofs.lemmas.Bool.Decides.{nat_tests}
+use Rattle.format.specs.Dwords.{bits_from}
 use Rattle.format.specs.Operands.{dimension, form, immediates, reprs}
 
 -- the bits that a form's selection has
@@ -21,13 +19,7 @@ counted f = get_or (0 ∷ 1 ∷ 4 ∷ 4 ∷ 4 ∷ []) f 0
 
 pub form_small : (t : ℕ) → form t < 5
 unfolding form
-form_small t = small (eqb (t % 2 ^ 2) 1) (eqb (t % 2 ^ 2) 2) (ltb (bits 2 3 t) 3) (ltb-true (bits 2 3 t) 3)
-  where
-    small : (a b c : Bool) → (c ≡ true → bits 2 3 t < 3) → cond a 1 (cond (b && c) (2 + bits 2 3 t) 0) < 5
-    small true b c h = omega arith
-    small false true true h = omega (arith, h refl)
-    small false true false h = omega arith
-    small false false c h = omega arith
+form_small t = grind (arith, nat_tests)
 
 pub counted_more : (f : ℕ) → f < 5 → (f ≡ 0 → ⊥) → (f ≡ 1 → ⊥) → 4 ≡ counted f
 counted_more zero h a b = absurd (a refl)
