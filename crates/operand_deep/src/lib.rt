@@ -61,6 +61,7 @@ fn low(form: u32) -> u64
 
 // Makes the extension of some modifiers, if there are any. Modifiers that no reader tells give one that is not exact, or that
 // has other modifiers.
+#[tactic(auto, using(crate::proofs::Fields::extension_none, crate::proofs::Fields::extension_some))]
 fn extension(m: u32) -> Option<u64>
     ensures { option_to_list result ≡ e.extension_of m }
 {
@@ -86,6 +87,7 @@ fn pack(row: &[u32; 16], extension: Option<u64>) -> u64
 }
 
 // Takes a dword and an extension where they are exact.
+#[tactic(auto, using(crate::proofs::Fields::no_token, crate::proofs::Fields::no_extension), unfolding(crate::specs::Walks::guessed, format::specs::Operands::exact_extension))]
 fn exact(t: u64, x: Option<u64>) -> Option<Guess>
     ensures { result ≡ w.guessed t (option_to_list x) }
 {
@@ -127,6 +129,7 @@ impl Guess {
     }
 
     // Gives the modifiers that the reader tells of the extension.
+    #[tactic(auto, unfolding(format::specs::Operands::modifiers))]
     fn modifiers(self) -> u32
         ensures { result ≡ op.modifiers (option_to_list self.extension) }
     {

@@ -47,6 +47,7 @@ fn immediates(form: u32) -> u32
 }
 
 // Counts the extension of some modifiers.
+#[tactic(auto, using(crate::proofs::Alone::no_signs, crate::proofs::Alone::some_signs))]
 fn extended(m: u32) -> u32
     ensures value { result ≡ length (e.extension_of m) }
     ensures small { result < 2 }
@@ -88,6 +89,7 @@ fn one_index(row: &[u32; 16], word: usize) -> bool
 }
 
 // Tells whether a row has an index of one dword at a word, no modifiers and no immediates.
+#[tactic(auto, using(crate::proofs::Alone::bare_row))]
 fn bare(row: &[u32; 16], word: usize) -> bool
     requires { w.Common row.now }
     ensures { result ≡ true → word < 2 ^ 32 → w.Stands row.now word 1 0 }
@@ -189,6 +191,7 @@ fn usual(row: &[u32; 16], word: usize) -> Option<usize>
 }
 
 // Counts the words of an operand with immediates at a word.
+#[tactic(auto, using(crate::proofs::Alone::leaf_row))]
 fn leaf_words(row: &[u32; 16], word: usize) -> Option<usize>
     requires { w.Plain row.now × (e.at 0 row.now / 2 ≡ 2) }
     ensures { IfSome result (λ n. w.Lone row.now word n) }
@@ -205,6 +208,7 @@ fn leaf_words(row: &[u32; 16], word: usize) -> Option<usize>
 
 // Counts the words of an operand with two or three indices of a dword each, the first of which is at a word. Those with one
 // have gone another way.
+#[tactic(auto, using(crate::proofs::Alone::several_lone))]
 fn index_words(row: &[u32; 16], word: usize) -> Option<usize>
     requires { w.Plain row.now × w.Starts row.now word }
     ensures { IfSome result (λ n. w.Lone row.now word n) }
@@ -274,6 +278,7 @@ fn before_operand(reprs: u32, unit: u32, x: u32, place: usize) -> Option<u32>
 }
 
 // Counts the dwords before the operand in the only index of row r, which is at a word, if that operand stands in the next row.
+#[tactic(auto, using(crate::specs::Walks::first))]
 fn in_first(row: &[u32; 16], r: usize, word: usize) -> Option<u32>
     requires { (r < 2 ^ 62) × (e.at 6 row.now ≡ 1) }
     ensures few { IfSome result (λ o. o < 2) }
@@ -286,6 +291,7 @@ fn in_first(row: &[u32; 16], r: usize, word: usize) -> Option<u32>
 }
 
 // The same of the second of two, if the first is a dword.
+#[tactic(auto, using(crate::specs::Walks::second))]
 fn in_second(row: &[u32; 16], r: usize, word: usize) -> Option<u32>
     requires { (r < 2 ^ 62) × (e.at 6 row.now ≡ 2) }
     ensures few { IfSome result (λ o. o < 2) }
@@ -301,6 +307,7 @@ fn in_second(row: &[u32; 16], r: usize, word: usize) -> Option<u32>
 }
 
 // The same of the third of three, if the others are dwords.
+#[tactic(auto, using(crate::specs::Walks::third))]
 fn in_third(row: &[u32; 16], r: usize, word: usize) -> Option<u32>
     requires { (r < 2 ^ 62) × (e.at 6 row.now ≡ 3) }
     ensures few { IfSome result (λ o. o < 2) }
