@@ -1,7 +1,8 @@
 -- Laws of writing an instruction: what stands in front of its operands, its operands, and the words behind theirs.
-use Prim.Native.Nat.{ℕ, ◌+◌, ◌-◌, ◌*◌, ◌/◌, ◌≤◌}
+use Prim.Native.Nat.{ℕ, ◌+◌, ◌-◌, ◌*◌, ◌/◌, ◌^◌, ◌<◌, ◌≤◌}
+use mathlib.Core.Bool.{Bool, true}
 use mathlib.Core.Path.{◌≡◌, sym, ap, ◌∙◌}
-use mathlib.Core.List.{List, [], ◌++◌, append_assoc}
+use mathlib.Core.List.{List, [], ◌∷◌, ◌++◌, append_assoc, append-nil}
 use mathlib.Core.Option.{Option, some as just}
 use native.Mathlib.Nat.{add-zero}
 use native.Mathlib.Omega.{arith}
@@ -19,8 +20,8 @@ use Rattle.format.specs.Encoder.{at, token_of_row, head_of_row}
 use Rattle.output.specs.Puts.{put, Headed}
 use Rattle.output.proofs.Puts.{headed_none, dwords_more}
 use Rattle.operand_emit.specs.declared.Place.{Place}
-use Rattle.instruction_emit.specs.Emits.{Is, Ready, Emitted, Fits, head_of, before, lead_of, front_of, FrontReady, Fronted}
-use Rattle.instruction_emit.proofs.Heads.{from_is}
+use Rattle.instruction_emit.specs.Emits.{Is, Ready, Emitted, Fits, head_of, before, lead_of, front_of, FrontReady, Fronted, Bare}
+use Rattle.instruction_emit.proofs.Heads.{from_is, bare_read, bare_120, bare_room, headed_bare}
 use Rattle.instruction_emit.proofs.Opened.{Known, Opened, words_alone, known, opened}
 use Rattle.instruction_emit.proofs.Runs.{confirm_run, run_at, trees_in, RunReady, Ran}
 
@@ -31,6 +32,22 @@ module _ (q ws : List ℕ) (from : Place) (out : List ℕ) (g : FrontReady q (le
     word_is = rw (eq-eqb (at 3 q) 0 h) (sym (add-zero from.word));
     headed = rw (eq-eqb (at 3 q) 0 h) (headed_none from.at out);
   }
+
+  module _ {b : Bool} (d : Bare q b) (hb : b ≡ true) where
+    bare_fits : Fits q
+    bare_fits = g.fits (bare_read q d hb)
+
+    pub bare_small : at 2 q + at 1 q * 16777216 < 2 ^ 32
+    bare_small = bare_room q d hb bare_fits
+
+    pub front_bare : {out₁ : List ℕ} → out₁ ≡ put (4 * from.at) (bytes_of ((at 2 q + at 1 q * 16777216) ∷ [])) out →
+        Fronted q (drop from.word ws) from.word from.at out (record { operand = from.operand; word = from.word; at = from.at + 1 }) out₁
+    front_bare e =
+        let n : before (at 2 q) ≡ 0 = rw (ne_eqb (at 2 q) 120 (bare_120 q d hb bare_fits)) in
+        record {
+          word_is = rw (ne_eqb (at 3 q) 0 (bare_read q d hb), n) (sym (add-zero from.word));
+          headed = rw (ne_eqb (at 3 q) 0 (bare_read q d hb), n, append-nil (head_of q)) (headed_bare q d hb bare_fits from.at out e);
+        }
 
   module _ (h : at 3 q ≡ 0 → ⊥) {next : ℕ} {out₁ : List ℕ} (d : Headed (head_of q) from.at out next out₁) {k : ℕ} (ek : k ≡ from_bool (eqb (at 2 q) 120)) where
     before_is : k ≡ before (at 2 q)

@@ -1,21 +1,22 @@
 -- Laws of a token and what stands after it, made from a row.
 use Prim.Native.Nat.{ℕ, zero, suc, ◌+◌, ◌*◌, ◌/◌, ◌%◌, ◌^◌, ◌<◌, ◌≤◌}
 use mathlib.Core.Path.{◌≡◌, refl, ap, ◌∙◌}
-use mathlib.Core.Bool.{Bool, true, false, cond}
+use mathlib.Core.Bool.{Bool, true, false, cond, ◌&&◌, ◌||◌}
 use mathlib.Core.List.{List, [], ◌∷◌, ◌++◌}
 use native.Mathlib.Omega.{arith}
 use lib.ListN.{length, take, length-append}
 use lib.Dec.{ltb, eqb}
-use borrow.Author.Tests.{lt-ltb, le-ltb}
+use borrow.Author.Tests.{lt-ltb, le-ltb, ne_eqb}
 use Rattle.std.proofs.Common.{Option, option_to_list}
 use Rattle.std.specs.Bool.{then_some}
 use Rattle.std.specs.Int.{from_bool}
 use Rattle.format.specs.Dwords.{bytes_of}
-use Rattle.format.specs.Declarations.{layout}
+use Rattle.format.specs.Counts.{within, numbers}
+use Rattle.format.specs.Declarations.{in_table, layout, chained}
 use Rattle.format.specs.Encoder.{at, chain_of, sized_row, token_of_row, head_of_row}
 use Rattle.output.specs.Puts.{put, Headed}
 use Rattle.output.proofs.Puts.{dwords_more}
-use Rattle.instruction_emit.specs.Emits.{low_of, chain_of_row, head_of, HeadReady}
+use Rattle.instruction_emit.specs.Emits.{low_of, chain_of_row, head_of, Fits, HeadReady, Bare}
 
 -- ---- a chain
 -- a dword that may be there
@@ -157,3 +158,48 @@ module _ (q : List ℕ) (place : ℕ) (out : List ℕ) (g : HeadReady q place (l
 
             pub headed_chain : {end : ℕ} {out₂ : List ℕ} → Headed (chain_of_row q) (place + 1) out₁ end out₂ → Headed (head_of q) place out end out₂
             headed_chain {end} {out₂} k = rw chain_there (headed_more (t ∷ []) (chain_of_row q) place (place + 1) end out out₁ out₂ (omega (arith, g.room)) (record { next_is = refl; output_is = e₁ }) k)
+
+-- ---- a row of kind 1 whose token has only a code and a length
+module _ (q : List ℕ) {b : Bool} (d : Bare q b) (hb : b ≡ true) where
+  pub bare_read : at 3 q ≡ 0 → ⊥
+  bare_read z = absurd (omega (arith, (d.kind_one hb).0))
+
+  module _ (f : Fits q) where
+    not_53 : at 2 q ≡ 53 → ⊥
+    unfolding layout in_table within numbers
+    not_53 z =
+        let e : at 3 q ≡ 5 = f.kind_is ∙ ap (λ (c : ℕ). (layout c).kind) z in
+        absurd (omega (arith, e, (d.kind_one hb).0))
+
+    pub bare_120 : at 2 q ≡ 120 → ⊥
+    unfolding layout in_table within numbers
+    bare_120 z =
+        let e : at 3 q ≡ 4 = f.kind_is ∙ ap (λ (c : ℕ). (layout c).kind) z in
+        absurd (omega (arith, e, (d.kind_one hb).0))
+
+    unsized : sized_row q ≡ false
+    unfolding sized_row
+    unsized = rw (ne_eqb (at 2 q) 53 not_53, (d.nothing_after hb).1) (never (eqb (at 2 q) 145 || eqb (at 2 q) 146))
+      where
+        never : (b : Bool) → (b && false) ≡ false
+        never true = refl
+        never false = refl
+
+    bare_token_lem : at 2 q + at 1 q * 16777216 ≡ token_of_row q
+    bare_token_lem =
+        let t : top q ≡ 0 = rw (d.nothing_after hb).1 refl in
+        omega (arith, token_short q unsized, t, (d.kind_one hb).1, (d.no_flags hb).0, (d.no_flags hb).1, (d.nothing_after hb).0)
+
+    nothing : head_of_row q ≡ []
+    unfolding head_of_row chain_of
+    nothing = rw (unsized, (d.nothing_after hb).1) (either (chained (layout (at 2 q))))
+      where
+        either : (b : Bool) → cond {A = List ℕ} b [] [] ≡ []
+        either true = refl
+        either false = refl
+
+    pub bare_room : at 2 q + at 1 q * 16777216 < 2 ^ 32
+    bare_room = omega (arith, bare_token_lem, f.token_fits)
+
+    pub headed_bare : (place : ℕ) (out : List ℕ) {out₁ : List ℕ} → out₁ ≡ put (4 * place) (bytes_of ((at 2 q + at 1 q * 16777216) ∷ [])) out → Headed (head_of q) place out (place + 1) out₁
+    headed_bare place out e = rw (← bare_token_lem, nothing) (record { next_is = refl; output_is = e })

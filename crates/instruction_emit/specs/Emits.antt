@@ -1,5 +1,5 @@
 -- What is written of an instruction whose row, operand rows and words were confirmed: the bytes of its dwords.
-use Rattle.std.specs.Prelude.{ℕ, ◌+◌, ◌*◌, ◌/◌, ◌^◌, ◌<◌, ◌≤◌, ◌≡◌, Bool, false, cond, List, [], ◌∷◌, ◌++◌, length, take, eqb}
+use Rattle.std.specs.Prelude.{ℕ, ◌+◌, ◌*◌, ◌/◌, ◌^◌, ◌<◌, ◌≤◌, ◌≡◌, Bool, true, false, cond, List, [], ◌∷◌, ◌++◌, length, take, eqb}
 use Rattle.std.proofs.Math.Option.{some as just}
 use Rattle.format.specs.Dwords.{bytes_of}
 use Rattle.format.specs.Declarations.{layout}
@@ -86,3 +86,9 @@ pub record FrontReady (q : List ℕ) (ws word place n : ℕ) : Type 0 where
 pub record Fronted (q ws : List ℕ) (word place : ℕ) (out : List ℕ) (f : Place) (out' : List ℕ) : Type 0 where
   pub word_is : f.word ≡ word + lead_of q
   pub headed : Headed (front_of q ws) place out f.at out'
+
+-- a row of kind 1 whose token has only a code and a length
+pub record Bare (q : List ℕ) (b : Bool) : Type 0 where
+  pub kind_one : b ≡ true → (at 3 q ≡ 1) × (at 4 q ≡ 0)
+  pub no_flags : b ≡ true → (at 5 q ≡ 0) × (at 6 q ≡ 0)
+  pub nothing_after : b ≡ true → (at 7 q ≡ 0) × (at 8 q ≡ 0)

@@ -6,6 +6,7 @@ ghost use Rattle.format.specs.Encoder as e;
 ghost use Rattle.output.specs.Puts.{Headed};
 ghost use Rattle.instruction_emit.specs.Emits as w;
 
+use operand_deep::pair;
 use operand_emit::{Place, write_words};
 use output::{put_dword, put_some};
 
@@ -56,6 +57,13 @@ fn head(row: &[u32; 16], output: &mut [u8], at: usize) -> usize
     chain(row, output, at + 1)
 }
 
+// Tells whether a row is of kind 1 and its token has only a code and a length: most are. What fails most often is asked first.
+fn bare(row: &[u32; 16]) -> bool
+    ensures { w.Bare row.now result }
+{
+    pair(row[7], row[8]) == 0 && pair(row[5], row[6]) == 0 && pair(row[3], row[4]) == 1
+}
+
 // Writes what stands in front of an instruction's operands: its token and what stands after it, and the word before the operand
 // of code 120. Words alone have nothing there.
 fn front(row: &[u32; 16], words: &[u32], from: Place, output: &mut [u8]) -> Place
@@ -63,6 +71,14 @@ fn front(row: &[u32; 16], words: &[u32], from: Place, output: &mut [u8]) -> Plac
     ensures fronted { w.Fronted row.now (drop from.word words.now) from.word from.at output.old result output.new }
     ensures operand { result.operand ≡ from.operand }
 {
+    if bare(row) {
+        put_dword(output, from.at, row[2] + row[1] * 0x100_0000);
+        return Place {
+            operand: from.operand,
+            word: from.word,
+            at: from.at + 1,
+        };
+    }
     if row[3] == 0 {
         return from;
     }

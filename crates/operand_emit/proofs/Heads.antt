@@ -1,21 +1,41 @@
 -- Laws of an operand's dword and its extension.
-use Prim.Native.Nat.{ℕ, ◌+◌, ◌*◌, ◌≤◌}
-use mathlib.Core.Path.{◌≡◌, refl}
+use Prim.Native.Nat.{ℕ, ◌+◌, ◌*◌, ◌^◌, ◌≤◌}
+use mathlib.Core.Path.{◌≡◌, refl, ap, ◌∙◌}
+use mathlib.Core.Bool.{cond}
+use lib.Dec.{ltb}
 use mathlib.Core.List.{List, [], ◌∷◌}
 use native.Mathlib.Omega.{arith}
 use lib.ListN.{length}
-use Rattle.format.specs.Dwords.{bytes_of}
+use Rattle.format.specs.Dwords.{bytes_of, bits_from}
+use Rattle.format.specs.Operands.{dimension, repr}
 use Rattle.format.specs.Encoder.{at, extension_of, operand_dword}
 use Rattle.output.specs.Puts.{put, Headed}
 use Rattle.output.proofs.Puts.{dwords_more}
 use Rattle.operand_emit.specs.Emits.{head_of}
 
-module _ (q : List ℕ) (place t : ℕ) (out : List ℕ) (et : t ≡ operand_dword q) (room : 4 * (place + length (head_of q)) ≤ length out) {out₁ : List ℕ} (e₁ : out₁ ≡ put (4 * place) (bytes_of (t ∷ [])) out) where
-  pub extension_room : {x : List ℕ} → x ≡ extension_of (at 3 q) → length out₁ ≡ length out → 4 * (place + 1 + length x) ≤ length out₁
-  extension_room ex l = rw ex (omega (arith, room))
+module _ (q : List ℕ) (place t : ℕ) (out : List ℕ) (et : t + length (extension_of (at 3 q)) * 2 ^ 31 ≡ operand_dword q) where
+  module _ {x : ℕ} (ex : x ∷ [] ≡ extension_of (at 3 q)) where
+    dword_is : t + 2147483648 ≡ operand_dword q
+    dword_is = omega (arith, et, ap length ex)
 
-  pub headed : {x : List ℕ} → x ≡ extension_of (at 3 q) → {next : ℕ} {out₂ : List ℕ} → Headed x (place + 1) out₁ next out₂ → Headed (head_of q) place out next out₂
-  headed {x} ex h = rw (← et, ← ex) (record {
-    next_is = omega (arith, h.next_is);
-    output_is = dwords_more place (place + 1) (t ∷ []) x out (omega (arith, room)) refl e₁ h.output_is;
-  })
+    pub headed_two : 4 * (place + length (head_of q)) ≤ length out → {out₁ out₂ : List ℕ} → out₁ ≡ put (4 * place) (bytes_of ((t + 2147483648) ∷ [])) out → out₂ ≡ put (4 * (place + 1)) (bytes_of (x ∷ [])) out₁ →
+        Headed (head_of q) place out (place + 2) out₂
+    headed_two h e₁ e₂ = rw (← dword_is, ← ex) (record { next_is = refl; output_is = dwords_more place (place + 1) ((t + 2147483648) ∷ []) (x ∷ []) out (omega (arith, ap length ex)) refl e₁ e₂ })
+
+-- bit 31 is no part of a representation
+same_dimension : (t n : ℕ) → dimension t ≡ dimension (t + n * 2 ^ 31)
+same_dimension t n = omega arith
+
+module _ (t n : ℕ) {d : ℕ} (e : t + n * 2 ^ 31 ≡ d) where
+  same_at : (k : ℕ) → bits_from (22 + 3 * k) 3 t ≡ bits_from (22 + 3 * k) 3 (t + n * 2 ^ 31) → repr k t ≡ repr k d
+  unfolding repr
+  same_at k h = (λ i. cond (ltb k (same_dimension t n i)) (h i) 8) ∙ ap (repr k) e
+
+  pub same_first : repr 0 t ≡ repr 0 d
+  same_first = same_at 0 (omega arith)
+
+  pub same_second : repr 1 t ≡ repr 1 d
+  same_second = same_at 1 (omega arith)
+
+  pub same_third : repr 2 t ≡ repr 2 d
+  same_third = same_at 2 (omega arith)

@@ -1,5 +1,5 @@
 -- How a confirmed operand is written by its parts.
-use Prim.Native.Nat.{ℕ, ◌+◌, ◌-◌, ◌*◌, ◌/◌, ◌<◌, ◌≤◌}
+use Prim.Native.Nat.{ℕ, ◌+◌, ◌-◌, ◌*◌, ◌/◌, ◌^◌, ◌<◌, ◌≤◌}
 use mathlib.Core.Path.{◌≡◌, refl, sym, ap, subst, ◌∙◌}
 use mathlib.Core.Bool.{Bool, true, false, cond, ◌&&◌}
 use mathlib.Core.List.{List, [], ◌++◌, append-nil}
@@ -13,7 +13,7 @@ use borrow.Author.Tests.{leb-true}
 use Rattle.format.specs.Dwords.{bytes_of}
 use Rattle.format.specs.Operands.{Tree, none, plain, repr, own, nests, known, dwords}
 use Rattle.format.specs.Rows.{tree_words, tree_rows}
-use Rattle.format.specs.Encoder.{at, operand_dword}
+use Rattle.format.specs.Encoder.{at, extension_of, operand_dword}
 use Rattle.format.proofs.Dwords.{both}
 use Rattle.format.proofs.Rows.{four_lengths}
 use Rattle.operand_deep.specs.Confirm.{Confirmer, confirm_index, confirm}
@@ -23,6 +23,7 @@ use Rattle.output.specs.Puts.{put, Headed}
 use Rattle.operand_emit.specs.Emits.{row_from, standing, Ready, Emitted, head_of, Fits}
 use Rattle.operand_emit.specs.declared.Place.{Place}
 use Rattle.output.proofs.Puts.{dwords_more}
+use Rattle.operand_emit.proofs.Heads.{same_first, same_second, same_third}
 use Rattle.operand_emit.proofs.Opened.{every_self, Indices, Opened, opens, some_left}
 
 emitted_of : {o : Option Tree} {x : Tree} {first word place : ℕ} {out : List ℕ} {ends : Place} {out' : List ℕ} → o ≡ just x → Emitted (just x) first word place out ends out' → Emitted o first word place out ends out'
@@ -202,12 +203,12 @@ module _ (left : ℕ) (rs ws : List ℕ) (from : Place) (out : List ℕ) (g : Re
         words_behind : (r s u : ℕ) → u ≡ r + s → drop s (drop r ws) ≡ drop u ws
         words_behind r s u e = drop-drop s r ws ∙ ap (λ (j : ℕ). drop j ws) (sym e)
 
-        module _ {t : ℕ} (et : t ≡ operand_dword q) {i₀ : ℕ} (e₀ : i₀ ≡ repr 0 t) where
-          dword_is : t ≡ operand_dword (row_from from.operand rs)
+        module _ (t : ℕ) (et : t + length (extension_of (at 3 q)) * 2 ^ 31 ≡ operand_dword q) {i₀ : ℕ} (e₀ : i₀ ≡ repr 0 t) where
+          dword_is : t + length (extension_of (at 3 q)) * 2 ^ 31 ≡ operand_dword (row_from from.operand rs)
           dword_is = et ∙ ap operand_dword eq
 
           first_at : P i₀ (from.operand + 16) from.word ≡ just A
-          first_at = rw (e₀, dword_is, ← (rows_behind from.operand 1 (from.operand + 16) refl), number_behind from.operand 1 (from.operand + 16) refl) three.first_is
+          first_at = rw (e₀, same_first t (length (extension_of (at 3 q))) dword_is, ← (rows_behind from.operand 1 (from.operand + 16) refl), number_behind from.operand 1 (from.operand + 16) refl) three.first_is
 
           pub first_ready : (n₁ : ℕ) → n₁ ≡ length out → Ready (P i₀ (from.operand + 16) from.word) next n₁
           first_ready n₁ e = record { tree = A; is = first_at; room = omega (arith, three_count, g.room, hd.next_is) }
@@ -217,7 +218,7 @@ module _ (left : ℕ) (rs ws : List ℕ) (from : Place) (out : List ℕ) (g : Re
             put₀ = emitted_as first_at f₀
 
             second_at : P i₁ ends₁.operand ends₁.word ≡ just B
-            second_at = rw (e₁, dword_is, ← (rows_behind (from.operand + 16) (tree_rows A) ends₁.operand put₀.operand_is), ← (words_behind from.word (length (tree_words A)) ends₁.word put₀.word_is), ← (rows_behind from.operand 1 (from.operand + 16) refl), number_behind (from.operand + 16) (tree_rows A) ends₁.operand put₀.operand_is, number_behind from.operand 1 (from.operand + 16) refl, put₀.word_is) three.second_is
+            second_at = rw (e₁, same_second t (length (extension_of (at 3 q))) dword_is, ← (rows_behind (from.operand + 16) (tree_rows A) ends₁.operand put₀.operand_is), ← (words_behind from.word (length (tree_words A)) ends₁.word put₀.word_is), ← (rows_behind from.operand 1 (from.operand + 16) refl), number_behind (from.operand + 16) (tree_rows A) ends₁.operand put₀.operand_is, number_behind from.operand 1 (from.operand + 16) refl, put₀.word_is) three.second_is
 
             pub second_ready : (n₁ : ℕ) → n₁ ≡ length out → Ready (P i₁ ends₁.operand ends₁.word) ends₁.at n₁
             second_ready n₁ e = record { tree = B; is = second_at; room = omega (arith, three_count, g.room, hd.next_is, put₀.at_is) }
@@ -227,7 +228,7 @@ module _ (left : ℕ) (rs ws : List ℕ) (from : Place) (out : List ℕ) (g : Re
               put₁ = emitted_as second_at f₁
 
               third_at : P i₂ ends₂.operand ends₂.word ≡ just C
-              third_at = rw (e₂, dword_is, ← (rows_behind ends₁.operand (tree_rows B) ends₂.operand put₁.operand_is), ← (words_behind ends₁.word (length (tree_words B)) ends₂.word put₁.word_is), ← (rows_behind (from.operand + 16) (tree_rows A) ends₁.operand put₀.operand_is), ← (words_behind from.word (length (tree_words A)) ends₁.word put₀.word_is), ← (rows_behind from.operand 1 (from.operand + 16) refl), number_behind ends₁.operand (tree_rows B) ends₂.operand put₁.operand_is, number_behind (from.operand + 16) (tree_rows A) ends₁.operand put₀.operand_is, number_behind from.operand 1 (from.operand + 16) refl, put₁.word_is, put₀.word_is) three.third_is
+              third_at = rw (e₂, same_third t (length (extension_of (at 3 q))) dword_is, ← (rows_behind ends₁.operand (tree_rows B) ends₂.operand put₁.operand_is), ← (words_behind ends₁.word (length (tree_words B)) ends₂.word put₁.word_is), ← (rows_behind (from.operand + 16) (tree_rows A) ends₁.operand put₀.operand_is), ← (words_behind from.word (length (tree_words A)) ends₁.word put₀.word_is), ← (rows_behind from.operand 1 (from.operand + 16) refl), number_behind ends₁.operand (tree_rows B) ends₂.operand put₁.operand_is, number_behind (from.operand + 16) (tree_rows A) ends₁.operand put₀.operand_is, number_behind from.operand 1 (from.operand + 16) refl, put₁.word_is, put₀.word_is) three.third_is
 
               pub third_ready : (n₁ : ℕ) → n₁ ≡ length out → Ready (P i₂ ends₂.operand ends₂.word) ends₂.at n₁
               third_ready n₁ e = record { tree = C; is = third_at; room = omega (arith, three_count, g.room, hd.next_is, put₀.at_is, put₁.at_is) }

@@ -1,14 +1,14 @@
 // Writes the dwords of an operand whose rows and words were confirmed.
 #![tactic(auto)]
 
-ghost use Rattle.std.specs.Prelude.{◌≡◌, [], ◌∷◌, ◌+◌, ◌-◌, ◌*◌, ◌^◌, ◌<◌, ◌≤◌, length, get_or, take, drop, option_to_list};
+ghost use Rattle.std.specs.Prelude.{◌≡◌, ◌≢◌, [], ◌∷◌, ◌+◌, ◌-◌, ◌*◌, ◌^◌, ◌<◌, ◌≤◌, length, get_or, take, drop, option_to_list};
 ghost use Rattle.format.specs.Dwords.{bytes_of};
 ghost use Rattle.format.specs.Encoder as e;
 ghost use Rattle.output.specs.Puts.{put, Headed};
 ghost use Rattle.operand_deep.specs.Confirm as c;
 ghost use Rattle.operand_emit.specs.Emits as w;
 
-use output::{copy, put_dword, put_some};
+use output::{copy, put_dword};
 
 // Where the row of the next operand begins, the next word, and the next dword of the output.
 #[derive(Clone, Copy)]
@@ -23,22 +23,11 @@ fn row_at(operands: &[u32], first: usize) -> &[u32; 16]
     requires { first + 16 ≤ length operands.now }
     ensures { result.now ≡ w.row_from first operands.now }
 {
-    operands[first..].first_chunk().unwrap()
+    operands[first..first + 16].first_chunk().unwrap()
 }
 
-// Gives bits 0-3 of an operand's dword, by its form.
-fn low(form: u32) -> u32
-    requires { form < 5 }
-    ensures { result ≡ get_or (0 ∷ 1 ∷ 2 ∷ 6 ∷ 10 ∷ []) form 0 }
-{
-    match form {
-        1 => 1,
-        2 => 2,
-        3 => 6,
-        4 => 10,
-        _ => 0,
-    }
-}
+// Bits 0-3 of an operand's dword, by its form.
+static LOW: [u32; 5] = [0, 1, 2, 6, 10];
 
 // Makes the extension of some modifiers, if there are any.
 #[tactic(auto, unfolding(format::specs::Encoder::extension_of))]
@@ -52,14 +41,13 @@ fn extension(m: u32) -> Option<u32>
     Some(1 + m % 4 * 0x40 + m / 16 * 0x4000 + m / 4 % 2 * 0x2_0000)
 }
 
-// Makes an operand's dword from its row.
-#[tactic(auto, unfolding(format::specs::Encoder::operand_dword, format::specs::Encoder::extension_of))]
-fn dword(row: &[u32; 16]) -> u32
+// Makes an operand's dword from its row, but for bit 31, which tells of an extension.
+#[tactic(auto, unfolding(format::specs::Encoder::operand_dword))]
+fn pack(row: &[u32; 16]) -> u32
     requires { w.Fits row.now }
-    ensures { result ≡ e.operand_dword row.now }
+    ensures { result + length (e.extension_of (e.at 3 row.now)) * 2 ^ 31 ≡ e.operand_dword row.now }
 {
-    let t = low(row[1]) + row[2] * 0x10 + row[0] * 0x1000 + row[6] * 0x10_0000 + row[7] * 0x40_0000;
-    if row[3] == 0 { t } else { t + 0x8000_0000 }
+    LOW[row[1] as usize] + row[2] * 0x10 + row[0] * 0x1000 + row[6] * 0x10_0000 + row[7] * 0x40_0000
 }
 
 // Stores an operand's dword and the extension of its modifiers; gives the dword of the output behind them.
@@ -67,8 +55,14 @@ fn head(row: &[u32; 16], output: &mut [u8], at: usize) -> usize
     requires { w.Fits row.now × (4 * (at + length (w.head_of row.now)) ≤ length output.old) }
     ensures { Headed (w.head_of row.now) at output.old result output.new }
 {
-    put_dword(output, at, dword(row));
-    put_some(output, at + 1, extension(row[3]))
+    let t = pack(row);
+    let Some(x) = extension(row[3]) else {
+        put_dword(output, at, t);
+        return at + 1;
+    };
+    put_dword(output, at, t + 0x8000_0000);
+    put_dword(output, at + 1, x);
+    at + 2
 }
 
 // Writes n words; gives the place behind them.
@@ -86,7 +80,7 @@ pub fn write_words(words: &[u32], from: Place, n: usize, output: &mut [u8]) -> P
 }
 
 // Writes an index of a representation: words of its own, and the operand that stands in it.
-#[cycle(emit_index)]
+#[cycle(emit_index_tree)]
 fn index(
     operands: &[u32],
     words: &[u32],
@@ -105,25 +99,55 @@ fn index(
     emit(operands, words, next, left - 1, output)
 }
 
-// Writes the operand that was confirmed at a place: its dword and extension, and behind them its words if no operand stands in
-// it, or else its indices.
-#[cycle(emit_index)]
-pub fn emit(operands: &[u32], words: &[u32], from: Place, left: usize, output: &mut [u8]) -> Place
-    requires { w.Ready (w.standing (c.confirm left) operands.now words.now from.operand from.word) from.at (length output.old) }
+// Writes an operand with an operand in it: its dword and extension, and behind them its indices.
+#[cycle(emit_index_tree)]
+#[inline(never)]
+fn tree(
+    row: &[u32; 16],
+    operands: &[u32],
+    words: &[u32],
+    from: Place,
+    left: usize,
+    output: &mut [u8],
+) -> Place
+    requires { (row.now ≡ w.row_from from.operand operands.now) × (e.at 14 row.now ≢ 1) × w.Ready (w.standing (c.confirm left) operands.now words.now from.operand from.word) from.at (length output.old) }
     ensures { w.Emitted (w.standing (c.confirm left) operands.now words.now from.operand from.word) from.operand from.word from.at output.old result output.new }
 {
-    let row = row_at(operands, from.operand);
+    let t = pack(row);
     let behind = Place {
         operand: from.operand + 16,
         word: from.word,
         at: head(row, output, from.at),
     };
-    if row[14] == 1 {
-        let n = from.at + row[15] as usize - behind.at;
-        return write_words(words, behind, n, output);
-    }
-    let t = dword(row);
     let a = index(operands, words, behind, tokens::repr(0, t), left, output);
     let b = index(operands, words, a, tokens::repr(1, t), left, output);
     index(operands, words, b, tokens::repr(2, t), left, output)
+}
+
+// Writes the operand that was confirmed at a place. Most have no operand in them: their words stand one behind the other, behind
+// their dword and its extension.
+#[cycle(emit_index_tree)]
+pub fn emit(operands: &[u32], words: &[u32], from: Place, left: usize, output: &mut [u8]) -> Place
+    requires { w.Ready (w.standing (c.confirm left) operands.now words.now from.operand from.word) from.at (length output.old) }
+    ensures { w.Emitted (w.standing (c.confirm left) operands.now words.now from.operand from.word) from.operand from.word from.at output.old result output.new }
+{
+    let Place { operand, word, at } = from;
+    let row = row_at(operands, operand);
+    if row[14] != 1 {
+        return tree(
+            row,
+            operands,
+            words,
+            Place { operand, word, at },
+            left,
+            output,
+        );
+    }
+    let behind = Place {
+        operand: operand + 16,
+        word,
+        at: head(row, output, at),
+    };
+    let n = at + row[15] as usize - behind.at;
+    write_words(words, behind, n, output)
 }

@@ -1,16 +1,12 @@
 -- Laws of dwords that are put into a list, as bytes.
-use Prim.Native.Nat.{ℕ, zero, suc, ◌+◌, ◌-◌, ◌*◌, ◌/◌, ◌%◌, ◌^◌, ◌<◌, ◌≤◌}
+use Prim.Native.Nat.{ℕ, suc, ◌+◌, ◌-◌, ◌*◌, ◌/◌, ◌%◌, ◌^◌, ◌<◌, ◌≤◌}
 use mathlib.Core.Path.{◌≡◌, refl, sym, ap, ◌∙◌}
 use mathlib.Core.List.{List, [], ◌∷◌, ◌++◌, append_assoc, append-nil}
 use native.Mathlib.Nat.{add-zero}
 use native.Mathlib.Omega.{arith}
-use lib.ListN.{length, take, drop, get_or, length-append, length-drop, take-append-drop}
-use lib.Seq.{take_at, drop_at, drop-drop, length-take-le, get_or-drop}
-use Rattle.std.specs.Int.{w32, to_le_bytes}
+use lib.ListN.{length, take, drop, get_or, set, length-append, length-drop, take-append-drop}
+use lib.Seq.{take_at, drop_at, drop-drop, length-take-le, get_or-drop, drop-cons, sets-eq}
 use Rattle.std.proofs.lemmas.List.{take_more}
-use Rattle.std.proofs.lemmas.List.Edits.{paste_all}
-use Rattle.std.proofs.lemmas.Slice.{put_mid-paste}
-use borrow.Rule.Slice.PartMut.{put_mid}
 use Rattle.format.specs.Dwords.{bytes_of}
 use Rattle.format.proofs.Dwords.{length_bytes}
 use Rattle.output.specs.Puts.{put, Headed}
@@ -69,14 +65,20 @@ words_more at ws word i n out h room l {out₁} {out₂} e₁ e₂ =
     let k : length (take i (drop word ws)) ≡ i = length-take-le i (drop word ws) (omega (arith, length-drop word ws)) in
     rw (take_more (drop word ws) i 0 (omega (arith, length-drop word ws)), get_or-drop word ws i 0) (dwords_more at (at + i) (take i (drop word ws)) (get_or ws (word + i) 0 ∷ []) out (omega arith) (omega arith) e₁ e₂)
 
--- a dword's bytes, stored at once
-pub stored : (out : List ℕ) (at x : ℕ) (b : List ℕ) → b ≡ to_le_bytes w32 x → put_mid (4 * at) (4 * at + 4 - 4 * at) out b ≡ put (4 * at) (bytes_of (x ∷ [])) out
-unfolding bytes_of put
-stored out at x b e =
-    put_mid-paste (4 * at) (4 * at + 4 - 4 * at) out b (to_le_bytes w32 x) 4 e (omega arith) refl
-    ∙ paste_all out (4 * at) (to_le_bytes w32 x) 4 refl
-    ∙ sym (append_assoc (take (4 * at) out) (to_le_bytes w32 x) (drop (4 * at + 4) out))
+pub words_two : (at : ℕ) (ws : List ℕ) (word n : ℕ) (out : List ℕ) → n ≡ 2 → n ≤ length ws - word → 4 * (at + n) ≤ length out → {out₁ out₂ : List ℕ} →
+    out₁ ≡ put (4 * at) (bytes_of (get_or ws word 0 ∷ [])) out → out₂ ≡ put (4 * (at + 1)) (bytes_of (get_or ws (word + 1) 0 ∷ [])) out₁ → out₂ ≡ put (4 * at) (bytes_of (take n (drop word ws))) out
+words_two at ws word n out en h room {out₁} {out₂} e₁ e₂ =
+    let one : out₁ ≡ put (4 * at) (bytes_of (take 1 (drop word ws))) out = rw (drop-cons ws word 0 (omega arith)) e₁ in
+    rw en (words_more at ws word 1 n out h room (omega arith) one e₂)
 
-pub positive : (n : ℕ) → (n ≡ 0 → ⊥) → 0 < n
-positive zero h = absurd (h refl)
-positive (suc n) h = omega arith
+-- four stores are a dword
+pub stored : (out : List ℕ) (at x : ℕ) → 4 * (at + 1) ≤ length out →
+    set (set (set (set out (4 * at) (x % 256)) (4 * at + 1) (x / 256 % 256)) (4 * at + 2) (x / 65536 % 256)) (4 * at + 3) (x / 16777216 % 256) ≡ put (4 * at) (bytes_of (x ∷ [])) out
+unfolding bytes_of put
+stored out at x h =
+    let a : ℕ = 4 * at in
+    let e₁ : a + 1 ≡ suc a = omega arith in
+    let e₂ : a + 2 ≡ suc (suc a) = omega arith in
+    let e₃ : a + 3 ≡ suc (suc (suc a)) = omega arith in
+    (λ i. set (set (set (set out a (x % 256)) (e₁ i) (x / 256 % 256)) (e₂ i) (x / 65536 % 256)) (e₃ i) (x / 16777216 % 256))
+    ∙ sets-eq (x % 256 ∷ x / 256 % 256 ∷ x / 65536 % 256 ∷ x / 16777216 % 256 ∷ []) out a (omega arith)

@@ -11,7 +11,11 @@ pub fn put_dword(output: &mut [u8], at: usize, x: u32)
     ensures { output.new ≡ put (4 * at) (bytes_of (x ∷ [])) output.old }
 {
     let i = 4 * at;
-    output[i..i + 4].copy_from_slice(&x.to_le_bytes());
+    let [a, b, c, d] = x.to_le_bytes();
+    output[i] = a;
+    output[i + 1] = b;
+    output[i + 2] = c;
+    output[i + 3] = d;
 }
 
 // Stores a dword, if there is one; gives the dword of the output behind it.
@@ -26,12 +30,22 @@ pub fn put_some(output: &mut [u8], at: usize, x: Option<u32>) -> usize
     at + 1
 }
 
-// Copies n words from a word on, one after the other.
+// Copies n words from a word on, one after the other, up to two of them without a loop: few operands have more.
 pub fn copy(words: &[u32], word: usize, n: usize, output: &mut [u8], at: usize)
     requires { (n ≤ length words.now - word) × (4 * (at + n) ≤ length output.old) }
     ensures { output.new ≡ put (4 * at) (bytes_of (take n (drop word words.now))) output.old }
 {
-    for i in 0..n {
-        put_dword(output, at + i, words[word + i]);
+    match n {
+        0 => {}
+        1 => put_dword(output, at, words[word]),
+        2 => {
+            put_dword(output, at, words[word]);
+            put_dword(output, at + 1, words[word + 1]);
+        }
+        _ => {
+            for i in 0..n {
+                put_dword(output, at + i, words[word + i]);
+            }
+        }
     }
 }

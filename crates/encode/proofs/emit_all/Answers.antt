@@ -1,22 +1,33 @@
-use mathlib.Core.Path.{refl, ◌∙◌}
+use mathlib.Core.Path.{sym, ◌∙◌}
 use native.Mathlib.Omega.{arith}
-use Rattle.encode.proofs.Emits.{all_left}
+use Rattle.encode.proofs.Emits.{end_within, cut_length, ready, left_on, all_left}
 use Rattle.encode.proofs.emit_all.Goals as goal
 
-pub loop-s-init : goal.loop-s-init
-loop-s-init c = record { long = refl; toward = λ final g. g }
+pub overflow_add-end : goal.overflow_add-end
+overflow_add-end c =
+    let a = c.args in
+    let g = c.loop-row.invariant.toward c.requires.final c.requires.left in
+    omega (arith, c.well_formed, end_within a.instructions.now a.operands.now a.words.now c.loop-row.row-index c.loop-row.place c.as_chunks.ensures.front (omega (arith, c.loop-row-test.true, c.as_chunks.ensures.front_len)) g)
 
-pub emit_next-s-requires : goal.emit_next-s-requires
-emit_next-s-requires c = (c.loop-s-test.true, record { final = c.requires.final; left = c.loop-s.invariant.toward c.requires.final c.requires.left })
+pub slice_bounds-emit-end : goal.slice_bounds-emit-end
+slice_bounds-emit-end c =
+    let a = c.args in
+    let g = c.loop-row.invariant.toward c.requires.final c.requires.left in
+    sym (cut_length a.instructions.now a.operands.now a.words.now c.loop-row.row-index c.loop-row.place c.as_chunks.ensures.front (omega (arith, c.loop-row-test.true, c.as_chunks.ensures.front_len)) g)
 
-pub loop-s-smaller : goal.loop-s-smaller
-loop-s-smaller c = omega (arith, c.emit_next-s.ensures.0, c.loop-s-test.true)
+pub emit-place-requires : goal.emit-place-requires
+emit-place-requires c =
+    let a = c.args in
+    let g = c.loop-row.invariant.toward c.requires.final c.requires.left in
+    ready a.instructions.now a.operands.now a.words.now c.loop-row.row-index c.loop-row.place c.as_chunks.ensures.front (omega (arith, c.loop-row-test.true, c.as_chunks.ensures.front_len)) g
 
-pub loop-s-preserved : goal.loop-s-preserved
-loop-s-preserved c = record { long = c.emit_next-s.auto.output ∙ c.loop-s.invariant.long; toward = λ final g. c.emit_next-s.ensures.1 final (c.loop-s.invariant.toward final g) }
-
-pub shape_of-output : goal.shape_of-output
-shape_of-output c = c.loop-s.invariant.long
+pub loop-row-preserved : goal.loop-row-preserved
+loop-row-preserved c =
+    let a = c.args in
+    record {
+      long = c.emit-place.auto.output ∙ c.loop-row.invariant.long;
+      toward = λ final g. left_on a.instructions.now a.operands.now a.words.now c.loop-row.row-index c.loop-row.place c.as_chunks.ensures.front (omega (arith, c.loop-row-test.true, c.as_chunks.ensures.front_len)) (c.loop-row.invariant.toward final g) c.emit-place.ensures.emitted c.emit-place.ensures.words;
+    }
 
 pub returns : goal.returns
-returns c = λ final g. all_left _ _ _ _ (omega (arith, c.loop-s-test.false)) (c.loop-s.invariant.toward final g)
+returns c = λ final g. all_left _ _ _ _ _ (omega (arith, c.loop-row-test.false, c.as_chunks.ensures.front_len)) (c.loop-row.invariant.toward final g)

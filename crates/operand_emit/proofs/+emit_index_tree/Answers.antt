@@ -1,0 +1,59 @@
+use mathlib.Core.Path.{◌∙◌}
+use native.Mathlib.Omega.{arith}
+use Prim.Native.Nat.{◌-◌}
+use Rattle.operand_emit.proofs.Trees.{own_room, child_ready, nested, unnested, depth_left, row_within, row_fits, head_room, head_within, words_room, lone_emitted, first_ready, second_ready, third_ready, deep_emitted}
+use Rattle.operand_emit.proofs.+emit_index_tree.Goals as goal
+
+pub emit-row_at-row-requires : goal.emit-row_at-row-requires
+emit-row_at-row-requires t c = let a = c.args in row_within a.left a.operands.now a.words.now a.from a.output.now c.requires
+
+pub emit-overflow_add-behind : goal.emit-overflow_add-behind
+emit-overflow_add-behind t c = let a = c.args in omega (arith, c.well_formed, row_within a.left a.operands.now a.words.now a.from a.output.now c.requires)
+
+pub emit-head-requires : goal.emit-head-requires
+emit-head-requires t c = let a = c.args in (row_fits a.left a.operands.now a.words.now a.from a.output.now c.requires c.row_at-row.ensures, head_room a.left a.operands.now a.words.now a.from a.output.now c.requires c.row_at-row.ensures)
+
+pub emit-overflow_sub-n : goal.emit-overflow_sub-n
+emit-overflow_sub-n t c = let a = c.args in head_within a.left a.operands.now a.words.now a.from a.output.now c.requires c.row_at-row.ensures c.head.ensures c.if-row-ne1.false
+
+pub emit-write_words-requires : goal.emit-write_words-requires
+emit-write_words-requires t c = let a = c.args in words_room a.left a.operands.now a.words.now a.from a.output.now c.requires c.row_at-row.ensures c.head.ensures c.if-row-ne1.false _ c.head.auto.output
+
+pub emit-returns : goal.emit-returns
+emit-returns t c = let a = c.args in lone_emitted a.left a.operands.now a.words.now a.from a.output.now c.requires c.row_at-row.ensures c.head.ensures c.if-row-ne1.false c.write_words.ensures.bytes c.write_words.ensures.place
+
+pub emit-tree-requires : goal.emit-tree-requires
+emit-tree-requires t c = (omega (arith, c.requires), (c.row_at-row.ensures, c.if-row-ne1.true, c.requires))
+
+pub tree-overflow_add-behind : goal.tree-overflow_add-behind
+tree-overflow_add-behind t c = let a = c.args in omega (arith, c.well_formed, row_within a.left a.operands.now a.words.now a.from a.output.now c.requires.2)
+
+pub tree-head-requires : goal.tree-head-requires
+tree-head-requires t c = let a = c.args in (row_fits a.left a.operands.now a.words.now a.from a.output.now c.requires.2 c.requires.0, head_room a.left a.operands.now a.words.now a.from a.output.now c.requires.2 c.requires.0)
+
+pub tree-pack-t-requires : goal.tree-pack-t-requires
+tree-pack-t-requires t c = let a = c.args in row_fits a.left a.operands.now a.words.now a.from a.output.now c.requires.2 c.requires.0
+
+pub tree-index-a-requires : goal.tree-index-a-requires
+tree-index-a-requires t c = let a = c.args in (omega arith, (depth_left a.left a.operands.now a.words.now a.from a.output.now c.requires.2, first_ready a.left a.operands.now a.words.now a.from a.output.now c.requires.2 c.requires.0 c.head.ensures c.requires.1 _ c.pack-t.ensures c.repr.ensures _ c.head.auto.output))
+
+pub tree-index-b-requires : goal.tree-index-b-requires
+tree-index-b-requires t c = let a = c.args in (omega arith, (depth_left a.left a.operands.now a.words.now a.from a.output.now c.requires.2, second_ready a.left a.operands.now a.words.now a.from a.output.now c.requires.2 c.requires.0 c.head.ensures c.requires.1 _ c.pack-t.ensures c.repr.ensures c.index-a.ensures c.repr-2.ensures _ (c.index-a.auto.output ∙ c.head.auto.output)))
+
+pub tree-index-requires : goal.tree-index-requires
+tree-index-requires t c = let a = c.args in (omega arith, (depth_left a.left a.operands.now a.words.now a.from a.output.now c.requires.2, third_ready a.left a.operands.now a.words.now a.from a.output.now c.requires.2 c.requires.0 c.head.ensures c.requires.1 _ c.pack-t.ensures c.repr.ensures c.index-a.ensures c.repr-2.ensures c.index-b.ensures c.repr-3.ensures _ (c.index-b.auto.output ∙ c.index-a.auto.output ∙ c.head.auto.output)))
+
+pub tree-returns : goal.tree-returns
+tree-returns t c = let a = c.args in deep_emitted a.left a.operands.now a.words.now a.from a.output.now c.requires.2 c.requires.0 c.head.ensures c.requires.1 _ c.pack-t.ensures c.repr.ensures c.index-a.ensures c.repr-2.ensures c.index-b.ensures c.repr-3.ensures c.index.ensures
+
+pub index-write_words-next-requires : goal.index-write_words-next-requires
+index-write_words-next-requires t c = let a = c.args in own_room (a.left - 1) a.r a.operands.now a.words.now a.from a.output.now c.requires.1 c.own.ensures
+
+pub index-returns-then-not-nests : goal.index-returns-then-not-nests
+index-returns-then-not-nests t c = let a = c.args in unnested (a.left - 1) a.r a.operands.now a.words.now a.from a.output.now c.requires.1 c.own.ensures c.nests.ensures c.write_words-next.ensures.place c.write_words-next.ensures.bytes c.if-not-nests.true
+
+pub index-emit-requires : goal.index-emit-requires
+index-emit-requires t c = let a = c.args in (omega (arith, c.requires), child_ready (a.left - 1) a.r a.operands.now a.words.now a.from a.output.now c.requires.1 c.own.ensures c.nests.ensures c.write_words-next.ensures.place c.if-not-nests.false _ c.write_words-next.auto.output)
+
+pub index-returns : goal.index-returns
+index-returns t c = let a = c.args in nested (a.left - 1) a.r a.operands.now a.words.now a.from a.output.now c.requires.1 c.own.ensures c.nests.ensures c.write_words-next.ensures.place c.write_words-next.ensures.bytes c.if-not-nests.false c.emit.ensures
