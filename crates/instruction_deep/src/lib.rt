@@ -143,6 +143,7 @@ fn other_fits(there: u32, kind: u32, x: u32) -> bool
 }
 
 // How many dwords the chain has that words 8 to 11 of a row tell, after a token that says whether there is one.
+#[inline(never)]
 pub fn chained(there: bool, n: u32, u: u32, a: u32, b: u32) -> Option<usize>
     ensures { Counts (Chained there n u a b) (length (e.chain_of n u a b)) result }
 {

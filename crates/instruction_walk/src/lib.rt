@@ -55,6 +55,7 @@ fn ready(instruction: &[u32; 16], place: usize, row: usize, word: usize, words: 
 }
 
 // Counts the dwords of the chain that words 8 to 11 of a row tell, if one is told so. Most rows tell of none.
+#[inline(always)]
 fn linked(instruction: &[u32; 16]) -> Option<usize>
     ensures { Counts (Linked instruction.now) (length (chain_in instruction.now)) result }
 {
@@ -227,7 +228,8 @@ fn usual(instruction: &[u32; 16], place: usize, rules: Rules, pools: &Pools) -> 
     short_declaration(instruction, place, rules.model51, pools, s)
 }
 
-// Walks it the general way.
+// Walks it the general way. It is kept out of the loops of callers, most of whose rows do not come here.
+#[inline(never)]
 fn general(instruction: &[u32; 16], place: usize, rules: Rules, pools: &Pools) -> Option<Walked>
     ensures { result ≡ walked_instruction (c.confirm_instruction rules.ceiling rules.model51 instruction.now place (rows_in pools.now) (words_in pools.now) pools.now.row pools.now.word) }
 {
@@ -244,12 +246,15 @@ fn general(instruction: &[u32; 16], place: usize, rules: Rules, pools: &Pools) -
 }
 
 // Walks the instruction of a row whose token stands at a place, from an operand row on and a word on; the words end with the
-// instruction's own. Codes from the ceiling on are unread.
+// instruction's own. Codes from the ceiling on are unread. It is inlined, and the general way has a copy of the pools: so what
+// they hold stays in registers on the short way.
+#[inline(always)]
 pub fn walk(instruction: &[u32; 16], place: usize, rules: Rules, pools: &Pools) -> Option<Walked>
     ensures { result ≡ walked_instruction (c.confirm_instruction rules.ceiling rules.model51 instruction.now place (rows_in pools.now) (words_in pools.now) pools.now.row pools.now.word) }
 {
     if let Some(walked) = usual(instruction, place, rules, pools) {
         return Some(walked);
     }
-    general(instruction, place, rules, pools)
+    let copied = *pools;
+    general(instruction, place, rules, &copied)
 }
