@@ -1,7 +1,7 @@
 // Writes an operand that was measured: its rows and its words.
 #![tactic(auto)]
 
-ghost use Rattle.std.specs.Prelude.{◌≡◌, ◌+◌, ◌-◌, ◌<◌, length, drop};
+ghost use Rattle.std.specs.Prelude.{◌≡◌, ◌+◌, ◌-◌, ◌<◌, length, get_or, drop};
 ghost use Rattle.std.proofs.Math.Seq.{slice};
 ghost use Rattle.format.specs.Dwords.{dwords_of};
 ghost use Rattle.format.specs.Operands as op;
@@ -84,8 +84,40 @@ fn tree(
     sums
 }
 
-// Writes an operand that was measured, at a place, with so many depths left. Most are exact, have neither extensions nor representations,
-// and one index: they go a short way.
+// Writes an operand with extensions or representations, whose dword is read.
+#[cycle(index_tree_write)]
+fn extended(
+    part: &[u8],
+    at: usize,
+    token: u32,
+    left: usize,
+    ops: &mut [u32],
+    words: &mut [u32],
+    row: usize,
+    word: usize,
+) -> Sums
+    requires { (token ≡ get_or (dwords_of part.now) at 0) × w.Room (op.operand left (drop at (dwords_of part.now))) (length ops.old) (length words.old) row word }
+    ensures { w.Wrote (op.operand left (drop at (dwords_of part.now))) row word ops.old words.old result ops.new words.new }
+{
+    let body = tokens::chain(part, at + 1, tokens::follows(token)).unwrap();
+    let front = Front {
+        part,
+        at,
+        token,
+        body,
+        modifiers: tokens::modifiers_of(part, at + 1, body),
+    };
+    if tokens::immediate(token) {
+        return front.leaf(ops, words, word);
+    }
+    if token / 0x40_0000 % 512 == 0 {
+        return front.flat(ops, words, word);
+    }
+    tree(&front, left, ops, words, row, word)
+}
+
+// Writes an operand that was measured, at a place, with so many depths left. Most have neither extensions nor representations, and of these
+// most are exact and have one index: they go a short way.
 #[cycle(index_tree_write)]
 #[inline(always)]
 pub fn write(
@@ -104,19 +136,18 @@ pub fn write(
     if tokens::short(token) {
         return single(part, at, token, ops, words, word);
     }
-    let body = tokens::chain(part, at + 1, tokens::follows(token)).unwrap();
+    if token >= 0x40_0000 {
+        return extended(part, at, token, left, ops, words, row, word);
+    }
     let front = Front {
         part,
         at,
         token,
-        body,
-        modifiers: tokens::modifiers_of(part, at + 1, body),
+        body: at + 1,
+        modifiers: 0,
     };
     if tokens::immediate(token) {
         return front.leaf(ops, words, word);
     }
-    if token / 0x40_0000 % 512 == 0 {
-        return front.flat(ops, words, word);
-    }
-    tree(&front, left, ops, words, row, word)
+    front.flat(ops, words, word)
 }

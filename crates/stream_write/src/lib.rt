@@ -54,7 +54,9 @@ fn write_next(
     }
 }
 
-// Writes a stream that was accepted: its rows and words, to the front of each pool.
+// Writes a stream that was accepted: its rows and words, to the front of each pool. It stays a function of its own, so that the numbers of the
+// first pass do not take its registers.
+#[inline(never)]
 pub fn write_all(
     chunk: &[u8],
     ceiling: u32,

@@ -3,7 +3,8 @@ use native.Mathlib.Omega.{arith}
 use lib.Seq.{slice, length-slice}
 use Rattle.format.specs.Dwords.{dwords_of}
 use Rattle.format.proofs.Dwords.{length_dwords}
-use Rattle.operand_write.proofs.Readings.{inside, chained, to, entered}
+use Rattle.operand.proofs.Fronts.{low_flat}
+use Rattle.operand_write.proofs.Readings.{inside, low_entered, chained, to, entered}
 use Rattle.operand_write.proofs.Writing.{short_room, short_wrote, leaf_room, leaf_wrote, flat_room, flat_wrote, tree_room, tree_wrote, counted, own_room, child_room, child_put, flat_put, nested_put, numbers, ready₀, ready₁, ready₂, node_sum, node_fits, node_put}
 use Prim.Native.Nat.{◌+◌, ◌-◌}
 use Rattle.std.proofs.Common.{ap, not}
@@ -12,32 +13,32 @@ use Rattle.operand_write.proofs.+index_tree_write.Goals as goal
 pub write-dword-token-requires : goal.write-dword-token-requires
 write-dword-token-requires t c = let a = c.args in inside a.left (dwords_of a.part.now) a.at c.requires.is
 
-pub write-overflow_add-at : goal.write-overflow_add-at
-write-overflow_add-at t c = let a = c.args in omega (arith, inside a.left (dwords_of a.part.now) a.at c.requires.is, length_dwords a.part.now)
+pub extended-overflow_add-at : goal.extended-overflow_add-at
+extended-overflow_add-at t c = let a = c.args in omega (arith, inside a.left (dwords_of a.part.now) a.at c.requires.1.is, length_dwords a.part.now)
 
-pub write-unwrap-body-requires : goal.write-unwrap-body-requires
-write-unwrap-body-requires t c = let a = c.args in chained a.left (dwords_of a.part.now) a.at c.requires.is _ c.dword-token.ensures _ c.follows.ensures _ c.chain.ensures
+pub extended-unwrap-body-requires : goal.extended-unwrap-body-requires
+extended-unwrap-body-requires t c = let a = c.args in chained a.left (dwords_of a.part.now) a.at c.requires.1.is _ c.requires.0 _ c.follows.ensures _ c.chain.ensures
 
-pub write-modifiers_of-requires : goal.write-modifiers_of-requires
-write-modifiers_of-requires t c = let a = c.args in let w = to a.left (dwords_of a.part.now) a.at c.requires.is _ c.dword-token.ensures _ c.follows.ensures _ (sym c.unwrap-body.ensures ∙ c.chain.ensures) in (w.from, w.within)
+pub extended-modifiers_of-requires : goal.extended-modifiers_of-requires
+extended-modifiers_of-requires t c = let a = c.args in let w = to a.left (dwords_of a.part.now) a.at c.requires.1.is _ c.requires.0 _ c.follows.ensures _ (sym c.unwrap-body.ensures ∙ c.chain.ensures) in (w.from, w.within)
 
-pub write-leaf-requires : goal.write-leaf-requires
-write-leaf-requires t c = let a = c.args in let o = entered a.left (dwords_of a.part.now) a.at c.requires.is _ c.dword-token.ensures _ c.follows.ensures _ (sym c.unwrap-body.ensures ∙ c.chain.ensures) _ c.modifiers_of.ensures in leaf_room o c.requires _ c.immediate.ensures c.if-immediate.true
+pub extended-leaf-requires : goal.extended-leaf-requires
+extended-leaf-requires t c = let a = c.args in let o = entered a.left (dwords_of a.part.now) a.at c.requires.1.is _ c.requires.0 _ c.follows.ensures _ (sym c.unwrap-body.ensures ∙ c.chain.ensures) _ c.modifiers_of.ensures in leaf_room o c.requires.1 _ c.immediate.ensures c.if-immediate.true
 
-pub write-returns-then-immediate : goal.write-returns-then-immediate
-write-returns-then-immediate t c = let a = c.args in let o = entered a.left (dwords_of a.part.now) a.at c.requires.is _ c.dword-token.ensures _ c.follows.ensures _ (sym c.unwrap-body.ensures ∙ c.chain.ensures) _ c.modifiers_of.ensures in leaf_wrote o c.requires _ c.immediate.ensures c.if-immediate.true c.leaf.ensures
+pub extended-returns-then-immediate : goal.extended-returns-then-immediate
+extended-returns-then-immediate t c = let a = c.args in let o = entered a.left (dwords_of a.part.now) a.at c.requires.1.is _ c.requires.0 _ c.follows.ensures _ (sym c.unwrap-body.ensures ∙ c.chain.ensures) _ c.modifiers_of.ensures in leaf_wrote o c.requires.1 _ c.immediate.ensures c.if-immediate.true c.leaf.ensures
 
-pub write-flat-requires : goal.write-flat-requires
-write-flat-requires t c = let a = c.args in let o = entered a.left (dwords_of a.part.now) a.at c.requires.is _ c.dword-token.ensures _ c.follows.ensures _ (sym c.unwrap-body.ensures ∙ c.chain.ensures) _ c.modifiers_of.ensures in flat_room o c.requires _ c.immediate.ensures c.if-immediate.false c.if-token-eq0.true
+pub extended-flat-requires : goal.extended-flat-requires
+extended-flat-requires t c = let a = c.args in let o = entered a.left (dwords_of a.part.now) a.at c.requires.1.is _ c.requires.0 _ c.follows.ensures _ (sym c.unwrap-body.ensures ∙ c.chain.ensures) _ c.modifiers_of.ensures in flat_room o c.requires.1 _ c.immediate.ensures c.if-immediate.false c.if-token-eq0.true
 
-pub write-returns-then-token-eq0 : goal.write-returns-then-token-eq0
-write-returns-then-token-eq0 t c = let a = c.args in let o = entered a.left (dwords_of a.part.now) a.at c.requires.is _ c.dword-token.ensures _ c.follows.ensures _ (sym c.unwrap-body.ensures ∙ c.chain.ensures) _ c.modifiers_of.ensures in flat_wrote o c.requires _ c.immediate.ensures c.if-immediate.false c.if-token-eq0.true c.flat.ensures
+pub extended-returns-then-token-eq0 : goal.extended-returns-then-token-eq0
+extended-returns-then-token-eq0 t c = let a = c.args in let o = entered a.left (dwords_of a.part.now) a.at c.requires.1.is _ c.requires.0 _ c.follows.ensures _ (sym c.unwrap-body.ensures ∙ c.chain.ensures) _ c.modifiers_of.ensures in flat_wrote o c.requires.1 _ c.immediate.ensures c.if-immediate.false c.if-token-eq0.true c.flat.ensures
 
-pub write-tree-requires : goal.write-tree-requires
-write-tree-requires t c = let a = c.args in let o = entered a.left (dwords_of a.part.now) a.at c.requires.is _ c.dword-token.ensures _ c.follows.ensures _ (sym c.unwrap-body.ensures ∙ c.chain.ensures) _ c.modifiers_of.ensures in (omega (arith, c.requires), (o.deep, o.front, tree_room o c.requires _ c.immediate.ensures c.if-immediate.false))
+pub extended-tree-requires : goal.extended-tree-requires
+extended-tree-requires t c = let a = c.args in let o = entered a.left (dwords_of a.part.now) a.at c.requires.1.is _ c.requires.0 _ c.follows.ensures _ (sym c.unwrap-body.ensures ∙ c.chain.ensures) _ c.modifiers_of.ensures in (omega (arith, c.requires), (o.deep, o.front, tree_room o c.requires.1 _ c.immediate.ensures c.if-immediate.false))
 
-pub write-returns : goal.write-returns
-write-returns t c = let a = c.args in let o = entered a.left (dwords_of a.part.now) a.at c.requires.is _ c.dword-token.ensures _ c.follows.ensures _ (sym c.unwrap-body.ensures ∙ c.chain.ensures) _ c.modifiers_of.ensures in tree_wrote o c.requires _ c.immediate.ensures c.if-immediate.false c.tree.ensures
+pub extended-returns : goal.extended-returns
+extended-returns t c = let a = c.args in let o = entered a.left (dwords_of a.part.now) a.at c.requires.1.is _ c.requires.0 _ c.follows.ensures _ (sym c.unwrap-body.ensures ∙ c.chain.ensures) _ c.modifiers_of.ensures in tree_wrote o c.requires.1 _ c.immediate.ensures c.if-immediate.false c.tree.ensures
 
 pub index-own_words-next-requires : goal.index-own_words-next-requires
 index-own_words-next-requires t c = let a = c.args in own_room (a.left - 1) (dwords_of a.part.now) a.r a.at _ _ c.requires.1
@@ -101,3 +102,18 @@ write-single-requires t c = let a = c.args in short_room a.left (dwords_of a.par
 
 pub write-returns-then-short : goal.write-returns-then-short
 write-returns-then-short t c = let a = c.args in short_wrote a.left (dwords_of a.part.now) a.at c.requires _ c.dword-token.ensures c.short.ensures c.if-short.true c.single.ensures
+
+pub write-overflow_add-front : goal.write-overflow_add-front
+write-overflow_add-front t c = let a = c.args in omega (arith, inside a.left (dwords_of a.part.now) a.at c.requires.is, length_dwords a.part.now)
+
+pub write-leaf-requires : goal.write-leaf-requires
+write-leaf-requires t c = let a = c.args in let o = low_entered a.left (dwords_of a.part.now) a.at c.requires.is _ c.dword-token.ensures c.if-token-ge4194304.false in leaf_room o c.requires _ c.immediate.ensures c.if-immediate.true
+
+pub write-returns-then-immediate : goal.write-returns-then-immediate
+write-returns-then-immediate t c = let a = c.args in let o = low_entered a.left (dwords_of a.part.now) a.at c.requires.is _ c.dword-token.ensures c.if-token-ge4194304.false in leaf_wrote o c.requires _ c.immediate.ensures c.if-immediate.true c.leaf.ensures
+
+pub write-flat-requires : goal.write-flat-requires
+write-flat-requires t c = let a = c.args in let o = low_entered a.left (dwords_of a.part.now) a.at c.requires.is _ c.dword-token.ensures c.if-token-ge4194304.false in flat_room o c.requires _ c.immediate.ensures c.if-immediate.false (low_flat _ c.if-token-ge4194304.false)
+
+pub write-returns : goal.write-returns
+write-returns t c = let a = c.args in let o = low_entered a.left (dwords_of a.part.now) a.at c.requires.is _ c.dword-token.ensures c.if-token-ge4194304.false in flat_wrote o c.requires _ c.immediate.ensures c.if-immediate.false (low_flat _ c.if-token-ge4194304.false) c.flat.ensures

@@ -1,11 +1,14 @@
 use Prim.Native.Nat.{◌+◌, ◌*◌}
 use Rattle.operand_write.proofs.+index_tree_write.Given as goal
 
-abbrev pub decreases-write : goal.decreases-write
-decreases-write l = l.left * 3 + 2
+abbrev pub decreases-extended : goal.decreases-extended
+decreases-extended l = l.left * 4 + 2
 
 abbrev pub decreases-index : goal.decreases-index
-decreases-index l = l.left * 3
+decreases-index l = l.left * 4
 
 abbrev pub decreases-tree : goal.decreases-tree
-decreases-tree l = l.left * 3 + 1
+decreases-tree l = l.left * 4 + 1
+
+abbrev pub decreases-write : goal.decreases-write
+decreases-write l = l.left * 4 + 3
