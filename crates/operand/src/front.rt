@@ -22,7 +22,8 @@ pub struct Front<'a> {
 impl<'a> Front<'a> {
     ghost use Rattle.operand.specs.Measures as m;
 
-    // Reads the front of an operand at a place, with so many depths left; none if the part ends before.
+    // Reads the front of an operand at a place, with so many depths left; none if no depth is left or
+    // the part ends before.
     pub fn read(part: &'a [u8], at: usize, left: usize) -> Option<Front<'a>>
         ensures told { m.told result ≡ m.fronted at (m.front left (drop at (dwords_of part.now))) }
         ensures placed { IfSome result (λ f. (f.part.now ≡ part.now) × (f.at ≡ at)) }
