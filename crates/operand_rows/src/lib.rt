@@ -37,7 +37,7 @@ pub struct Row {
 
 impl Row {
     // The sixteen numbers of the row.
-    pub fn words(self) -> [u32; 16]
+    pub fn numbers(self) -> [u32; 16]
         ensures { result ≡ w.listed self }
     {
         [
@@ -173,7 +173,7 @@ impl<'a> Front<'a> {
             imms: n as u32,
             ..lone_row(self.token, self.modifiers, dwords as u32)
         };
-        put_row(ops, row.words());
+        put_row(ops, row.numbers());
         Sums {
             rows: 1,
             words: n,
@@ -197,7 +197,7 @@ impl<'a> Front<'a> {
             w2: placed(2 < n, word + 2),
             ..lone_row(self.token, self.modifiers, dwords as u32)
         };
-        put_row(ops, row.words());
+        put_row(ops, row.numbers());
         Sums {
             rows: 1,
             words: n,
@@ -225,7 +225,7 @@ pub fn single(
         w0: word as u32,
         ..lone_row(token, 0, 2)
     };
-    put_row(ops, row.words());
+    put_row(ops, row.numbers());
     Sums {
         rows: 1,
         words: 1,

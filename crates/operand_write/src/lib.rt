@@ -80,7 +80,7 @@ fn tree(
         ..c
     };
     let made = make_row(token, front.modifiers, row, word, a, b, sums);
-    put_row(ops, made.words());
+    put_row(ops, made.numbers());
     sums
 }
 

@@ -25,6 +25,6 @@ returns c =
       rows_are = refl;
       words_are = sym one;
       dwords_are = rw (one, two);
-      rows_put = rw (c.put_row.ensures, c.words.ensures, c.lone_row.ensures, one, all, two);
+      rows_put = rw (c.put_row.ensures, c.numbers.ensures, c.lone_row.ensures, one, all, two);
       words_put = rw (one, c.dword.ensures) (rw (add-zero (a.at + 1)) at (copied_more (dwords_of a.part.now) a.words.now (a.at + 1) 0 (omega (arith, c.requires)) (omega (arith, c.requires))));
     }

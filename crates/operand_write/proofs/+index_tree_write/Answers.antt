@@ -95,7 +95,7 @@ pub tree-put_row-requires : goal.tree-put_row-requires
 tree-put_row-requires t c = let f = c.args.front.now in omega (arith, (numbers (c.args.left - 1) (dwords_of f.part.now) f.token (slice (f.at + 1) f.body (dwords_of f.part.now)) f.body _ _ c.requires.2 c.requires.1.within).for_rows, c.index-a.auto.ops, c.index-b.auto.ops, c.index-c.auto.ops)
 
 pub tree-returns : goal.tree-returns
-tree-returns t c = let f = c.args.front.now in node_put (c.args.left - 1) (dwords_of f.part.now) f.token (slice (f.at + 1) f.body (dwords_of f.part.now)) f.body _ _ c.requires.2 c.requires.1.within c.repr-r0.ensures c.index-a.ensures c.repr-r1.ensures c.index-b.ensures c.repr-r2.ensures c.index-c.ensures f.at c.requires.1.from (length-slice (f.at + 1) f.body (dwords_of f.part.now) c.requires.1.within) c.requires.1.modified (c.words.ensures ∙ c.make_row-made.ensures) c.put_row.ensures
+tree-returns t c = let f = c.args.front.now in node_put (c.args.left - 1) (dwords_of f.part.now) f.token (slice (f.at + 1) f.body (dwords_of f.part.now)) f.body _ _ c.requires.2 c.requires.1.within c.repr-r0.ensures c.index-a.ensures c.repr-r1.ensures c.index-b.ensures c.repr-r2.ensures c.index-c.ensures f.at c.requires.1.from (length-slice (f.at + 1) f.body (dwords_of f.part.now) c.requires.1.within) c.requires.1.modified (c.numbers.ensures ∙ c.make_row-made.ensures) c.put_row.ensures
 
 pub write-single-requires : goal.write-single-requires
 write-single-requires t c = let a = c.args in short_room a.left (dwords_of a.part.now) a.at c.requires _ c.dword-token.ensures c.short.ensures c.if-short.true

@@ -9,6 +9,6 @@ returns c =
       rows_are = refl;
       words_are = cc;
       dwords_are = cc;
-      rows_put = rw (c.put_row.ensures, c.words.ensures, c.lone_row.ensures, c.placed.ensures, c.placed-2.ensures, c.placed-3.ensures, c.dimension-dimension.ensures);
+      rows_put = rw (c.put_row.ensures, c.numbers.ensures, c.lone_row.ensures, c.placed.ensures, c.placed-2.ensures, c.placed-3.ensures, c.dimension-dimension.ensures);
       words_put = cc;
     }

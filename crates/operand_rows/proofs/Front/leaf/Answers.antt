@@ -9,6 +9,6 @@ returns c =
       rows_are = refl;
       words_are = cc;
       dwords_are = cc;
-      rows_put = simp (c.put_row.ensures, c.words.ensures, c.lone_row.ensures, c.placed.ensures, c.immediates-n.ensures);
+      rows_put = simp (c.put_row.ensures, c.numbers.ensures, c.lone_row.ensures, c.placed.ensures, c.immediates-n.ensures);
       words_put = cc;
     }
