@@ -1,4 +1,2 @@
-mod Telling
-mod Asking
 mod Unique
 pub mod Restored

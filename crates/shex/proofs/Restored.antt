@@ -6,10 +6,9 @@ use mathlib.Core.List.{List, ◌++◌}
 use mathlib.Core.Option.{none}
 use lib.ListN.{length, take, drop}
 use lib.Seq.{take_at}
-use Rattle.format.specs.declared.Answer.{Answer}
-use Rattle.format.specs.declared.Answer.TheVariants.{Accepted}
-use Rattle.format.specs.declared.Encoded.{Encoded}
-use Rattle.format.specs.declared.Encoded.TheVariants.{Written}
+use Rattle.std.specs.Prelude.{Result, Ok}
+use Rattle.format.specs.declared.Accepted.{Accepted}
+use Rattle.format.specs.declared.Refusal.{Refusal}
 use Rattle.format.specs.Dwords.{Bytes}
 use Rattle.format.specs.Instructions.{Instruction}
 use Rattle.format.specs.Refusals.{Outcome, accepted, SHEX, header, room, read_chunk, decode, answer, pools_after, Pools, Rows, told, reading}
@@ -24,7 +23,7 @@ use Rattle.reading.specs.Walks.{lent}
 use Rattle.encode.specs.Encode.{Encodes}
 
 -- ---- decode, then encode
-module _ (edition four : ℕ) (chunk is os ws is' os' ws' : List ℕ) (v i o w : ℕ) (d : Decoded edition four chunk is os ws (Accepted v i o w) is' os' ws') where
+module _ (edition four : ℕ) (chunk is os ws is' os' ws' : List ℕ) (v i o w : ℕ) (d : Decoded edition four chunk is os ws (Ok (record { version = v; instructions = i; operands = o; words = w })) is' os' ws') where
   abbrev a : Outcome
   a = decode edition four chunk (pools.lent is os ws)
 
@@ -32,18 +31,18 @@ module _ (edition four : ℕ) (chunk is os ws is' os' ws' : List ℕ) (v i o w :
   unfolding reading
   rows_are =
       (λ k. record { version = v; instructions = i; operands = o; words = w; pools = record { instructions = d.instructions k; operands = d.operands k; words = d.words k } }) ∙
-      ap (λ (x : Answer). told x (pools_after a (pools.lent is os ws))) d.answered
+      ap (λ (x : Result Accepted Refusal). told x (pools_after a (pools.lent is os ws))) d.answered
 
   -- the output holds the chunk's bytes, and behind them what it held
-  pub bytes_back : Bytes chunk → (out out' : List ℕ) (b : Encoded) → length chunk ≤ length out → Encodes edition v i o w is' os' ws' out b out' → (b ≡ Written (length chunk)) × (out' ≡ chunk ++ drop (length chunk) out)
+  pub bytes_back : Bytes chunk → (out out' : List ℕ) (b : Result ℕ Refusal) → length chunk ≤ length out → Encodes edition v i o w is' os' ws' out b out' → (b ≡ Ok (length chunk)) × (out' ≡ chunk ++ drop (length chunk) out)
   unfolding encode_answer output_after
   bytes_back y out out' b h e =
-      let g : Gives edition (reading a (pools.lent is os ws)) chunk = accepted_gives edition four chunk (pools.lent is os ws) v i o w y (sym d.answered) in
+      let g : Gives edition (reading a (pools.lent is os ws)) chunk = accepted_gives edition four chunk (pools.lent is os ws) (record { version = v; instructions = i; operands = o; words = w }) y (sym d.answered) in
       let z : encode edition (lent v i o w is' os' ws') (length out) ≡ encoded chunk = restored edition (lent v i o w is' os' ws') chunk (subst (λ (q : Rows). Gives edition q chunk) (sym rows_are) g) (length out) h in
       (e.answered ∙ ap encode_answer z, e.output ∙ ap (λ (x : Encoding). output_after x out) z)
 
 -- ---- encode, then decode
-wrote : (x : Encoding) (n : ℕ) → Written n ≡ encode_answer x → (b : List ℕ) × (x ≡ encoded b) × (n ≡ length b)
+wrote : (x : Encoding) (n : ℕ) → Ok n ≡ encode_answer x → (b : List ℕ) × (x ≡ encoded b) × (n ≡ length b)
 unfolding encode_answer
 wrote (unencoded r) n e = impossible (cc)
 wrote (encoded b) n e = (b, refl, (cc))
@@ -53,7 +52,7 @@ decode_SHEX : (edition : ℕ) (chunk : List ℕ) (p : Pools) {v : ℕ} {l : List
 unfolding read_chunk decode
 decode_SHEX edition chunk p h k = let u = unless_accepted (header edition SHEX chunk) h in rw (u.0, k) u.1
 
-module _ (edition v i o w : ℕ) (is os ws out out' : List ℕ) (n : ℕ) (e : Encodes edition v i o w is os ws out (Written n) out') where
+module _ (edition v i o w : ℕ) (is os ws out out' : List ℕ) (n : ℕ) (e : Encodes edition v i o w is os ws out (Ok n) out') where
   abbrev q : Rows
   q = lent v i o w is os ws
 
@@ -67,7 +66,7 @@ module _ (edition v i o w : ℕ) (is os ws out out' : List ℕ) (n : ℕ) (e : E
       let z : out' ≡ b ++ drop (length b) out = e.output ∙ ap (λ (x : Encoding). output_after x out) written.1 in
       ap (take n) z ∙ take_at b (drop (length b) out) n (sym written.2)
 
-  module _ (is₀ os₀ ws₀ is₁ os₁ ws₁ : List ℕ) (a : Answer) (r : room (take n out') (pools.lent is₀ os₀ ws₀) ≡ none) (d : Decoded edition SHEX (take n out') is₀ os₀ ws₀ a is₁ os₁ ws₁) where
+  module _ (is₀ os₀ ws₀ is₁ os₁ ws₁ : List ℕ) (a : Result Accepted Refusal) (r : room (take n out') (pools.lent is₀ os₀ ws₀) ≡ none) (d : Decoded edition SHEX (take n out') is₀ os₀ ws₀ a is₁ os₁ ws₁) where
     abbrev p : Pools
     p = pools.lent is₀ os₀ ws₀
 
@@ -87,7 +86,7 @@ module _ (edition v i o w : ℕ) (is os ws out out' : List ℕ) (n : ℕ) (e : E
 
     -- the same version token and counts, and the same rows and words
     pub record RowsBack : Type 0 where
-      pub answered : a ≡ Accepted v i o w
+      pub answered : a ≡ Ok (record { version = v; instructions = i; operands = o; words = w })
       pub instructions : take (16 * i) is₁ ≡ take (16 * i) is
       pub operands : take (16 * o) os₁ ≡ take (16 * o) os
       pub words : take w ws₁ ≡ take w ws

@@ -1,11 +1,9 @@
 -- What the calls answer, in numbers.
-use Rattle.std.specs.Prelude.{ℕ, ◌≡◌, List, length, get_or}
-use Rattle.format.specs.declared.Encoded.{Encoded}
-use Rattle.format.specs.declared.Encoded.TheVariants.{Written, Unwritten}
+use Rattle.std.specs.Prelude.{ℕ, ◌≡◌, List, length, get_or, Result, Ok, Err}
 use Rattle.format.specs.Encoder.{encode, encode_answer, output_after}
 use Rattle.format.specs.Refusals.{number, place, answer, decode, pools_after}
-use Rattle.format.specs.declared.Answer.{Answer}
-use Rattle.format.specs.declared.Answer.TheVariants.{Accepted, Refused}
+use Rattle.format.specs.declared.Accepted.{Accepted}
+use Rattle.format.specs.declared.Refusal.{Refusal}
 use Rattle.decode.specs.Decode.{lent}
 use Rattle.reading.specs.Walks as rows
 use Rattle.shex.specs.declared.Reading.{Reading}
@@ -16,12 +14,11 @@ use Rattle.shex.specs.declared.Sides.{Sides}
 use Rattle.format.specs.declared.Shown.{Shown}
 use Rattle.format.specs.declared.Shown.TheVariants.{Factor, Count, Nothing}
 use Rattle.format.specs.Calls.{part_of, part_start, shows, offsets}
-use Rattle.rows.specs.Span.{span, span_start}
 
 -- a reading: 0 for an accepted chunk, whose place is 0; the counts of a refusal are 0
-abbrev pub in_numbers : Answer → Reading
-in_numbers (Accepted v i o w) = record { number = 0; place = 0; version = v; instructions = i; operands = o; words = w }
-in_numbers (Refused r) = record { number = number r; place = place r; version = 0; instructions = 0; operands = 0; words = 0 }
+abbrev pub in_numbers : Result Accepted Refusal → Reading
+in_numbers (Ok a) = record { number = 0; place = 0; version = a.version; instructions = a.instructions; operands = a.operands; words = a.words }
+in_numbers (Err r) = record { number = number r; place = place r; version = 0; instructions = 0; operands = 0; words = 0 }
 
 -- what reading a chunk tells, and what it leaves in each pool
 pub record Read (edition four : ℕ) (chunk is os ws : List ℕ) (r : Reading) (is' os' ws' : List ℕ) : Type 0 where
@@ -31,19 +28,16 @@ pub record Read (edition four : ℕ) (chunk is os ws : List ℕ) (r : Reading) (
   pub words : ws' ≡ (pools_after (decode edition four chunk (lent is os ws)) (lent is os ws)).words
 
 -- a writing: 0 and the chunk's size; the size of a refusal is 0
-abbrev pub size_in_numbers : Encoded → Writing
-size_in_numbers (Written n) = record { number = 0; size = n }
-size_in_numbers (Unwritten r) = record { number = number r; size = 0 }
+abbrev pub size_in_numbers : Result ℕ Refusal → Writing
+size_in_numbers (Ok n) = record { number = 0; size = n }
+size_in_numbers (Err r) = record { number = number r; size = 0 }
 
 -- what encoding rows tells, and what it leaves in the output
 pub record Wrote (edition version i o w : ℕ) (is os ws out : List ℕ) (r : Writing) (out' : List ℕ) : Type 0 where
   pub told : r ≡ size_in_numbers (encode_answer (encode edition (rows.lent version i o w is os ws) (length out)))
   pub output : out' ≡ output_after (encode edition (rows.lent version i o w is os ws) (length out)) out
 
--- where n words from a on are, and where a row's words are: the start of their part, and its length
-abbrev pub span_at : ℕ → ℕ → List ℕ → Span
-span_at a n words = record { start = span_start a n words; length = length (span a n words) }
-
+-- where a row's words are: the start of their part, and its length
 abbrev pub lies : ℕ → ℕ → List ℕ → List ℕ → Span
 lies row count pool words = record { start = part_start row count pool words; length = length (part_of row count pool words) }
 

@@ -2,9 +2,9 @@
 #![tactic(auto)]
 
 ghost use Rattle.std.specs.Prelude.{◌≡◌};
-ghost use Rattle.shex.specs.Numbers.{Read, Wrote, lies, showing, sides, span_at};
+ghost use Rattle.shex.specs.Numbers.{Read, Wrote, lies, showing, sides};
 
-use format::{Answer, Encoded, Shown};
+use format::{Offsets, Shown};
 
 // A reading in numbers: 0 and the version token with the three counts; or a refusal's number and place, and counts of 0.
 #[repr(C)]
@@ -30,20 +30,15 @@ pub fn shex_decode(
     ensures { Read edition four chunk.now instructions.old operands.old words.old result instructions.new operands.new words.new }
 {
     match decode::decode(chunk, four, edition, instructions, operands, words) {
-        Answer::Accepted {
-            version,
-            instructions: i,
-            operands: o,
-            words: w,
-        } => Reading {
+        Ok(told) => Reading {
             number: 0,
             place: 0,
-            version,
-            instructions: i,
-            operands: o,
-            words: w,
+            version: told.version,
+            instructions: told.instructions,
+            operands: told.operands,
+            words: told.words,
         },
-        Answer::Refused(r) => Reading {
+        Err(r) => Reading {
             number: answers::number(r),
             place: answers::place(r),
             version: 0,
@@ -87,8 +82,8 @@ pub fn shex_encode(
         word_count,
         output,
     ) {
-        Encoded::Written { size } => Writing { number: 0, size },
-        Encoded::Unwritten(r) => Writing {
+        Ok(size) => Writing { number: 0, size },
+        Err(r) => Writing {
             number: answers::number(r),
             size: 0,
         },
@@ -103,37 +98,15 @@ pub struct Span {
     pub length: usize,
 }
 
-// Where the n words from a on are, or an empty span at 0 where they aren't all in the pool.
-fn span_of(words: &[u32], a: u32, n: u32) -> Span
-    ensures { result ≡ span_at a n words.now }
-{
-    let start = a as usize;
-    let length = n as usize;
-    if start <= words.len() {
-        if length <= words.len() - start {
-            return Span { start, length };
-        }
-    }
-    Span {
-        start: 0,
-        length: 0,
-    }
-}
-
 // Tells where a row's words are; an export can't return the part itself. The span is empty and at 0 for a row number at or past the count,
 // a row outside its pool or a span outside the word pool.
 pub fn shex_words(instructions: &[u32], words: &[u32], row: u32, count: u32) -> Span
     ensures { result ≡ lies row count instructions.now words.now }
 {
-    if row < count {
-        let k = row as usize;
-        if k < instructions.len() / 16 {
-            return span_of(words, instructions[16 * k + 14], instructions[16 * k + 15]);
-        }
-    }
+    let places = rows::places_of(instructions, words, row, count);
     Span {
-        start: 0,
-        length: 0,
+        start: places.start,
+        length: places.end - places.start,
     }
 }
 
@@ -146,17 +119,17 @@ pub struct Showing {
 }
 
 // Tells what a row shows.
+#[tactic(auto, unfolding(crate::specs::Numbers::shown_in_numbers, format::specs::Calls::shows, format::specs::Calls::shown_in))]
 pub fn shex_shows(instructions: &[u32], words: &[u32], row: u32, count: u32) -> Showing
     ensures { result ≡ showing row count instructions.now words.now }
 {
-    let part = rows::words_of(instructions, words, row, count);
-    if part.len() != 1 {
+    let [dword] = rows::words_of(instructions, words, row, count) else {
         return Showing { kind: 0, dword: 0 };
-    }
+    };
     match rows::shows(instructions, words, row, count) {
         Shown::Factor(_) => Showing {
             kind: 2,
-            dword: part[0],
+            dword: *dword,
         },
         Shown::Count(x) => Showing { kind: 1, dword: x },
         Shown::Nothing => Showing { kind: 0, dword: 0 },
@@ -173,13 +146,10 @@ pub struct Sides {
 }
 
 // Gives u, v and w of a row.
+#[tactic(auto, unfolding(format::specs::Calls::offsets))]
 pub fn shex_offsets(instructions: &[u32], row: u32, count: u32) -> Sides
     ensures { result ≡ sides row count instructions.now }
 {
-    let o = rows::offsets(instructions, row, count);
-    Sides {
-        u: o.u,
-        v: o.v,
-        w: o.w,
-    }
+    let Offsets { u, v, w } = rows::offsets(instructions, row, count);
+    Sides { u, v, w }
 }
