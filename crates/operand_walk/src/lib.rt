@@ -1,4 +1,5 @@
 // Walks operand rows and words that anybody may have written, most of them a short way: whether they are those of an operand.
+// Where a short way answers None, nothing is said: the rows may be an operand's all the same. Only `walk` answers for all.
 #![tactic(auto)]
 
 ghost use Rattle.std.specs.Prelude.{◌≡◌, ◌+◌, ◌-◌, ◌*◌, ◌/◌, ◌^◌, ◌<◌, ◌≤◌, true, [], ◌∷◌, length, drop, ◌≢◌, slice_index, IfSome};
