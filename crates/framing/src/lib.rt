@@ -28,10 +28,13 @@ pub fn long(t: u32) -> bool
     one_of(code(t), 145, 146) && t / 0x8000_0000 % 2 == 1
 }
 
-// Whether the next dword is the length.
-#[tactic(auto, unfolding(format::specs::Framing::sized))]
+// Whether the next dword is the length. Most codes are below 145, where one comparison more tells it.
+#[tactic(auto, unfolding(format::specs::Framing::sized, format::specs::Framing::long, format::specs::Counts::within))]
 pub fn sized(t: u32) -> bool
     ensures { result ≡ f.sized t }
 {
-    code(t) == 53 || long(t)
+    if code(t) < 145 {
+        return code(t) == 53;
+    }
+    long(t)
 }
