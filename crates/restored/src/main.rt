@@ -5,9 +5,10 @@
 
 ghost use Rattle.std.specs.Prelude.{◌≡◌, length};
 
-use case_file::{EDITION, INSTRUCTIONS, OPERANDS, QUESTIONS, SIZE, WORDS, at, wide};
-use format::{Answer, Encoded};
+use case_file::{HEAD, Head, Pools, QUESTION};
+use format::{Accepted, Encoded, Refusal};
 use std::fs::File;
+use std::ops::Range;
 use std::{fs, io};
 
 // The letters SHEX, as a dword.
@@ -21,21 +22,11 @@ const FIRST_WORD: usize = 8192;
 
 const END: usize = 12288;
 
-// What is encoded beside the rows and words.
+// What is encoded: the edition, and what is told beside the rows and words.
 #[derive(Clone, Copy, Drop)]
 struct Told {
     edition: u32,
-    version: u32,
-    instructions: u32,
-    operands: u32,
-    words: u32,
-}
-
-// What encoding says in numbers: a refusal's, or 0 and a size.
-#[derive(Clone, Copy, Drop)]
-struct Said {
-    number: u32,
-    size: usize,
+    accepted: Accepted,
 }
 
 // What comes of a case: restored or lost; and of a change: refused, read back or wrong.
@@ -49,13 +40,26 @@ enum Outcome {
 }
 
 // How many there are of each outcome.
-#[derive(Clone, Copy, Drop)]
+#[derive(Drop)]
 struct Totals {
     restored: u64,
     lost: u64,
     refused: u64,
     read_back: u64,
     wrong: u64,
+}
+
+impl Totals {
+    fn count(&mut self, o: Outcome) {
+        let total = match o {
+            Outcome::Restored => &mut self.restored,
+            Outcome::Lost => &mut self.lost,
+            Outcome::Refused => &mut self.refused,
+            Outcome::ReadBack => &mut self.read_back,
+            Outcome::Wrong => &mut self.wrong,
+        };
+        *total = total.wrapping_add(1);
+    }
 }
 
 // Room for an output, all zero.
@@ -66,384 +70,267 @@ fn no_output() -> [u8; 2048]
 }
 
 // Room for the rows and words of a case, all zero.
-fn no_rows() -> [u32; 12288]
-    ensures { 12288 ≡ length result }
+fn no_rows() -> [u32; END]
+    ensures { END ≡ length result }
 {
-    [0; 12288]
-}
-
-fn more(n: u64) -> u64 {
-    std::num::wrapping_add_u64(n, 1)
-}
-
-// The totals with one more outcome.
-fn counted(t: Totals, o: Outcome) -> Totals {
-    let mut n = t;
-    match o {
-        Outcome::Restored => n.restored = more(n.restored),
-        Outcome::Lost => n.lost = more(n.lost),
-        Outcome::Refused => n.refused = more(n.refused),
-        Outcome::ReadBack => n.read_back = more(n.read_back),
-        Outcome::Wrong => n.wrong = more(n.wrong),
-    }
-    n
-}
-
-// The byte at a place, or 0 past the end.
-fn byte(part: &[u8], i: usize) -> u8 {
-    if i < part.len() {
-        return part[i];
-    }
-    0
-}
-
-// The entry at a place, or 0 past the end.
-fn entry(pool: &[u32], i: usize) -> u32 {
-    if i < pool.len() {
-        return pool[i];
-    }
-    0
-}
-
-// Sets an entry, if there is one.
-fn set(rows: &mut [u32], i: usize, x: u32) {
-    if i < rows.len() {
-        rows[i] = x;
-    }
-}
-
-// Copies a pool to a place among the rows and words.
-fn copy(rows: &mut [u32], start: usize, pool: &[u32]) {
-    let mut i: usize = 0;
-    while i < pool.len() {
-        set(rows, std::num::wrapping_add_usize(start, i), pool[i]);
-        i += 1;
-    }
+    [0; END]
 }
 
 // What an output holds at a place before a call: it rises over the chunk's bytes, and is never the same.
 fn before(chunk: &[u8], i: usize) -> u8 {
-    std::num::wrapping_add_u8(byte(chunk, i), (i % 255 + 1) as u8)
+    let byte = chunk.get(i).copied().unwrap_or(0);
+    byte.wrapping_add((i % 255 + 1) as u8)
 }
 
-// Fills an output with what it holds before a call.
-fn prepare(output: &mut [u8], chunk: &[u8]) {
-    let mut i: usize = 0;
-    while i < output.len() {
-        output[i] = before(chunk, i);
-        i += 1;
+// An output with what it holds before a call.
+fn prepared(chunk: &[u8]) -> [u8; 2048] {
+    let mut output = no_output();
+    for (i, byte) in output.iter_mut().enumerate() {
+        *byte = before(chunk, i);
     }
+    output
 }
 
-// Whether an output has the first n bytes of the chunk.
+// Whether an output begins with the first n bytes of the chunk.
 fn begins(output: &[u8], chunk: &[u8], n: usize) -> bool {
-    let mut i: usize = 0;
-    while i < n {
-        if byte(output, i) != byte(chunk, i) {
-            return false;
-        }
-        i += 1;
-    }
-    n <= output.len()
+    output
+        .get(..n)
+        .is_some_and(|front| chunk.starts_with(front))
 }
 
 // Whether an output holds from a place on what it held before a call.
 fn kept(output: &[u8], from: usize, chunk: &[u8]) -> bool {
-    let mut i = from;
-    while i < output.len() {
-        if output[i] != before(chunk, i) {
-            return false;
-        }
-        i += 1;
-    }
-    true
+    output
+        .iter()
+        .enumerate()
+        .skip(from)
+        .all(|(i, byte)| *byte == before(chunk, i))
 }
 
-fn in_numbers(e: Encoded) -> Said {
-    match e {
-        Encoded::Written { size } => Said {
-            number: 0,
-            size: wide(size),
-        },
-        Encoded::Unwritten(r) => Said {
-            number: answers::number(r),
-            size: 0,
-        },
-    }
-}
-
-// Encodes rows and words into the first n bytes of an output. Where there are fewer, it says what no encoding says: 0 bytes.
-fn encoded(told: Told, rows: &[u32], output: &mut [u8], n: usize) -> Said {
-    if rows.len() != END || output.len() < n {
-        return Said { number: 0, size: 0 };
-    }
-    in_numbers(encode::encode(
+// Encodes rows and words into an output.
+fn encoded(told: Told, rows: &[u32; END], output: &mut [u8]) -> Encoded {
+    encode::encode(
         told.edition,
-        told.version,
-        &rows[0..FIRST_OPERAND],
-        told.instructions,
+        told.accepted.version,
+        &rows[..FIRST_OPERAND],
+        told.accepted.instructions,
         &rows[FIRST_OPERAND..FIRST_WORD],
-        told.operands,
-        &rows[FIRST_WORD..END],
-        told.words,
-        &mut output[0..n],
-    ))
+        told.accepted.operands,
+        &rows[FIRST_WORD..],
+        told.accepted.words,
+        output,
+    )
 }
 
-// Whether encoding into n bytes gives this number, and writes so many bytes of the chunk and nothing else.
-fn gives(told: Told, rows: &[u32], chunk: &[u8], n: usize, number: u32, written: usize) -> bool {
-    let mut output = no_output();
-    prepare(&mut output, chunk);
-    let said = encoded(told, rows, &mut output, n);
-    let front = begins(&output, chunk, written);
-    let rest = kept(&output, written, chunk);
-    said.number == number && said.size == written && front && rest
+// Whether encoding into n bytes gives this answer, and writes as many bytes of the chunk as it says and nothing else.
+fn gives(told: Told, rows: &[u32; END], chunk: &[u8], n: usize, answer: Encoded) -> bool {
+    let mut output = prepared(chunk);
+    let Some(lent) = output.get_mut(..n) else {
+        return false;
+    };
+    let same = encoded(told, rows, lent) == answer;
+    let written = answer.unwrap_or(0) as usize;
+    same && begins(&output, chunk, written) && kept(&output, written, chunk)
 }
 
 // Whether a chunk of so many bytes comes back from its rows and words: into as many bytes, not into one less, and into one more.
-fn restored(told: Told, rows: &[u32], chunk: &[u8], size: u32) -> Outcome {
-    let n = wide(size);
-    if n == 0 {
-        return Outcome::Lost;
-    }
-    let exact = gives(told, rows, chunk, n, 0, n);
-    let short = gives(told, rows, chunk, n - 1, 16, 0);
-    let longer = gives(told, rows, chunk, n + 1, 0, n);
-    if exact && short && longer {
+fn restored(told: Told, rows: &[u32; END], chunk: &[u8], size: u32) -> Outcome {
+    let n = size as usize;
+    if n != 0
+        && gives(told, rows, chunk, n, Ok(size))
+        && gives(told, rows, chunk, n - 1, Err(Refusal::OutputShort))
+        && gives(told, rows, chunk, n + 1, Ok(size))
+    {
         return Outcome::Restored;
     }
     Outcome::Lost
 }
 
-// Whether an answer has this version token and these counts.
-fn same_told(a: Answer, told: Told) -> bool {
-    match a {
-        Answer::Accepted {
-            version,
-            instructions,
-            operands,
-            words,
-        } => {
-            told.version == version
-                && told.instructions == instructions
-                && told.operands == operands
-                && told.words == words
-        }
-        Answer::Refused(_) => false,
-    }
-}
-
-// Whether a pool begins with the n entries of rows and words from a place on.
-fn same_front(pool: &[u32], rows: &[u32], start: usize, n: usize) -> bool {
-    if n <= pool.len() {
-        return case_file::same_part(&pool[0..n], rows, start, n);
-    }
-    false
+// Whether a pool begins with the first n entries of others.
+fn same_front(pool: &[u32], others: &[u32], n: usize) -> bool {
+    pool.get(..n).is_some_and(|front| others.starts_with(front))
 }
 
 // Whether bytes are read to exactly these rows and words.
-fn reads_to(bytes: &[u8], told: Told, rows: &[u32]) -> bool {
-    let mut instructions = case_file::no_entries();
-    let mut operands = case_file::no_entries();
-    let mut words = case_file::no_entries();
+fn reads_to(bytes: &[u8], told: Told, rows: &[u32; END]) -> bool {
+    let mut pools = Pools::new();
     let answer = decode::decode(
         bytes,
         SHEX,
         told.edition,
-        &mut instructions,
-        &mut operands,
-        &mut words,
+        &mut pools.instructions,
+        &mut pools.operands,
+        &mut pools.words,
     );
-    let same = same_told(answer, told);
-    let i = same_front(&instructions, rows, 0, wide(told.instructions) * 16);
-    let o = same_front(&operands, rows, FIRST_OPERAND, wide(told.operands) * 16);
-    let w = same_front(&words, rows, FIRST_WORD, wide(told.words));
-    same && i && o && w
+    let counts = told.accepted;
+    answer == Ok(counts)
+        && same_front(
+            &pools.instructions,
+            &rows[..FIRST_OPERAND],
+            counts.instructions as usize * 16,
+        )
+        && same_front(
+            &pools.operands,
+            &rows[FIRST_OPERAND..FIRST_WORD],
+            counts.operands as usize * 16,
+        )
+        && same_front(&pools.words, &rows[FIRST_WORD..], counts.words as usize)
 }
 
-// Whether what was written, so many bytes of an output, is read back, and the output is kept past it.
-fn read_back(output: &[u8], size: usize, told: Told, rows: &[u32], chunk: &[u8]) -> bool {
-    if output.len() < size {
-        return false;
-    }
-    let rest = kept(output, size, chunk);
-    let same = reads_to(&output[0..size], told, rows);
-    rest && same
-}
-
-// What comes of encoding rows and words that were changed into a long output.
-fn outcome_of(told: Told, rows: &[u32], chunk: &[u8]) -> Outcome {
-    let mut output = no_output();
-    prepare(&mut output, chunk);
-    let said = encoded(told, rows, &mut output, 2048);
-    if said.number == 15 {
-        if kept(&output, 0, chunk) {
-            return Outcome::Refused;
+// What comes of encoding rows and words that were changed into a long output: refused, with the output as it was; or so many bytes are
+// written that are read back, and the output is as it was past them.
+fn outcome_of(told: Told, rows: &[u32; END], chunk: &[u8]) -> Outcome {
+    let mut output = prepared(chunk);
+    match encoded(told, rows, &mut output) {
+        Err(Refusal::NoReading) if kept(&output, 0, chunk) => Outcome::Refused,
+        Ok(size) => {
+            let size = size as usize;
+            let is_read = output
+                .get(..size)
+                .is_some_and(|bytes| reads_to(bytes, told, rows));
+            if is_read && kept(&output, size, chunk) {
+                Outcome::ReadBack
+            } else {
+                Outcome::Wrong
+            }
         }
+        _ => Outcome::Wrong,
     }
-    if said.number == 0 {
-        if read_back(&output, said.size, told, rows, chunk) {
-            return Outcome::ReadBack;
-        }
-    }
-    Outcome::Wrong
 }
 
-// Sets an entry for a call, and counts what comes of it.
-fn with_entry(told: Told, rows: &mut [u32], i: usize, x: u32, chunk: &[u8], t: Totals) -> Totals {
-    if i < rows.len() {
-        let old = rows[i];
-        rows[i] = x;
-        let o = outcome_of(told, rows, chunk);
-        rows[i] = old;
-        return counted(t, o);
-    }
-    counted(t, Outcome::Wrong)
+// What comes of an entry to which something is added for a call.
+fn with_entry(told: Told, rows: &mut [u32; END], i: usize, change: u32, chunk: &[u8]) -> Outcome {
+    let Some(old) = rows.get(i).copied() else {
+        return Outcome::Wrong;
+    };
+    rows[i] = old.wrapping_add(change);
+    let outcome = outcome_of(told, rows, chunk);
+    rows[i] = old;
+    outcome
 }
 
-// Changes an entry: one more, one less, and the top bit.
-fn with_changes(told: Told, rows: &mut [u32], i: usize, chunk: &[u8], t: Totals) -> Totals {
-    let x = entry(rows, i);
-    let up = std::num::wrapping_add_u32(x, 1);
-    let down = std::num::wrapping_sub_u32(x, 1);
-    let top = std::num::wrapping_add_u32(x, 0x8000_0000);
-    let a = with_entry(told, rows, i, up, chunk, t);
-    let b = with_entry(told, rows, i, down, chunk, a);
-    with_entry(told, rows, i, top, chunk, b)
-}
-
-// Changes the entries from a place up to another.
+// Changes each of these entries, one more, one less, and the top bit, and counts what comes of it.
 fn with_entries(
     told: Told,
-    rows: &mut [u32],
-    from: usize,
-    to: usize,
+    rows: &mut [u32; END],
+    entries: Range<usize>,
     chunk: &[u8],
-    t: Totals,
-) -> Totals {
-    let mut n = t;
-    let mut i = from;
-    while i < to {
-        n = with_changes(told, rows, i, chunk, n);
-        i += 1;
+    totals: &mut Totals,
+) {
+    for i in entries {
+        for change in [1, 0xFFFF_FFFF, 0x8000_0000] {
+            totals.count(with_entry(told, rows, i, change, chunk));
+        }
     }
-    n
-}
-
-// Changes the version token, or a count, by adding to them.
-fn with_told(
-    told: Told,
-    version: u32,
-    instructions: u32,
-    operands: u32,
-    words: u32,
-    rows: &[u32],
-    chunk: &[u8],
-    t: Totals,
-) -> Totals {
-    let changed = Told {
-        edition: told.edition,
-        version: std::num::wrapping_add_u32(told.version, version),
-        instructions: std::num::wrapping_add_u32(told.instructions, instructions),
-        operands: std::num::wrapping_add_u32(told.operands, operands),
-        words: std::num::wrapping_add_u32(told.words, words),
-    };
-    counted(t, outcome_of(changed, rows, chunk))
 }
 
 // Changes the version token, one more, and each count, one more and one less.
-fn with_each_told(told: Told, rows: &[u32], chunk: &[u8], t: Totals) -> Totals {
-    let less = 0xFFFF_FFFF;
-    let a = with_told(told, 1, 0, 0, 0, rows, chunk, t);
-    let b = with_told(told, 0, 1, 0, 0, rows, chunk, a);
-    let c = with_told(told, 0, less, 0, 0, rows, chunk, b);
-    let d = with_told(told, 0, 0, 1, 0, rows, chunk, c);
-    let e = with_told(told, 0, 0, less, 0, rows, chunk, d);
-    let f = with_told(told, 0, 0, 0, 1, rows, chunk, e);
-    with_told(told, 0, 0, 0, less, rows, chunk, f)
+fn with_each_told(told: Told, rows: &[u32; END], chunk: &[u8], totals: &mut Totals) {
+    let a = told.accepted;
+    let changed = [
+        Accepted {
+            version: a.version.wrapping_add(1),
+            ..a
+        },
+        Accepted {
+            instructions: a.instructions.wrapping_add(1),
+            ..a
+        },
+        Accepted {
+            instructions: a.instructions.wrapping_sub(1),
+            ..a
+        },
+        Accepted {
+            operands: a.operands.wrapping_add(1),
+            ..a
+        },
+        Accepted {
+            operands: a.operands.wrapping_sub(1),
+            ..a
+        },
+        Accepted {
+            words: a.words.wrapping_add(1),
+            ..a
+        },
+        Accepted {
+            words: a.words.wrapping_sub(1),
+            ..a
+        },
+    ];
+    for accepted in changed {
+        totals.count(outcome_of(Told { accepted, ..told }, rows, chunk));
+    }
 }
 
 // Restores an accepted chunk of so many bytes, and changes what it is restored from.
-fn run(told: Told, rows: &mut [u32], chunk: &[u8], size: u32, t: Totals) -> Totals {
-    let instructions_end = wide(told.instructions) * 16;
-    let operands_end = FIRST_OPERAND + wide(told.operands) * 16;
-    let words_end = FIRST_WORD + wide(told.words);
-    let a = counted(t, restored(told, rows, chunk, size));
-    let b = with_each_told(told, rows, chunk, a);
-    let c = with_entries(told, rows, 0, instructions_end, chunk, b);
-    let d = with_entries(told, rows, FIRST_OPERAND, operands_end, chunk, c);
-    with_entries(told, rows, FIRST_WORD, words_end, chunk, d)
+fn run(told: Told, rows: &mut [u32; END], chunk: &[u8], size: u32, totals: &mut Totals) {
+    let instructions_end = told.accepted.instructions as usize * 16;
+    let operands_end = FIRST_OPERAND + told.accepted.operands as usize * 16;
+    let words_end = FIRST_WORD + told.accepted.words as usize;
+    totals.count(restored(told, rows, chunk, size));
+    with_each_told(told, rows, chunk, totals);
+    with_entries(told, rows, 0..instructions_end, chunk, totals);
+    with_entries(told, rows, FIRST_OPERAND..operands_end, chunk, totals);
+    with_entries(told, rows, FIRST_WORD..words_end, chunk, totals);
 }
 
-// Runs what the reader made of a case, if it was accepted.
-fn run_answer(
-    head: &[u8],
-    a: Answer,
-    instructions: &[u32],
-    operands: &[u32],
-    words: &[u32],
-    chunk: &[u8],
-    t: Totals,
-) -> Totals {
-    let Answer::Accepted {
-        version,
-        instructions: i,
-        operands: o,
-        words: w,
-    } = a
-    else {
-        return t;
-    };
+// The rows and words of three pools in one array.
+fn rows_of(pools: &Pools) -> [u32; END] {
     let mut rows = no_rows();
-    copy(&mut rows, 0, instructions);
-    copy(&mut rows, FIRST_OPERAND, operands);
-    copy(&mut rows, FIRST_WORD, words);
+    let entries = pools
+        .instructions
+        .iter()
+        .chain(&pools.operands)
+        .chain(&pools.words);
+    for (row, entry) in rows.iter_mut().zip(entries) {
+        *row = *entry;
+    }
+    rows
+}
+
+// Runs what the reader made of a case that it accepted.
+fn run_accepted(head: &Head, accepted: Accepted, pools: &Pools, chunk: &[u8], totals: &mut Totals) {
     let told = Told {
-        edition: at(head, EDITION),
-        version,
-        instructions: i,
-        operands: o,
-        words: w,
+        edition: head.edition,
+        accepted,
     };
-    run(told, &mut rows, chunk, at(head, SIZE), t)
+    run(told, &mut rows_of(pools), chunk, head.size, totals);
 }
 
 // Reads past what a case expects, and tells whether it was there.
-fn skipped(file: &mut File, head: &[u8]) -> io::Result<bool> {
-    let rows = wide(at(head, INSTRUCTIONS)) + wide(at(head, OPERANDS));
-    let entries = rows * 16 + wide(at(head, WORDS));
-    let questions = wide(at(head, QUESTIONS));
+fn skipped(file: &mut File, head: &Head) -> io::Result<bool> {
+    let rows = head.instructions as usize + head.operands as usize;
+    let entries = rows * 16 + head.words as usize;
     let mut buffer = case_file::large_buffer();
-    case_file::read_front(file, &mut buffer, entries * 4 + questions * 36)
+    case_file::read_front(
+        file,
+        &mut buffer,
+        entries * 4 + head.questions as usize * QUESTION,
+    )
 }
 
 // Runs the next case. One that cannot be read counts as lost.
-fn next(file: &mut File, t: Totals) -> io::Result<Totals> {
-    let mut head = [0u8; 56];
+fn next(file: &mut File, totals: &mut Totals) -> io::Result<()> {
+    let mut head = [0; HEAD];
     if !case_file::read_all(file, &mut head)? {
-        return Ok(counted(t, Outcome::Lost));
+        totals.count(Outcome::Lost);
+        return Ok(());
     }
+    let head = Head::read(&head);
     let mut chunk = case_file::no_bytes();
-    let mut instructions = case_file::no_entries();
-    let mut operands = case_file::no_entries();
-    let mut words = case_file::no_entries();
-    let a = case_file::decoded(
-        file,
-        &head,
-        &mut chunk,
-        &mut instructions,
-        &mut operands,
-        &mut words,
-    )?;
-    if skipped(file, &head)? {
-        return Ok(run_answer(&head, a, &instructions, &operands, &words, &chunk, t));
+    let mut pools = Pools::new();
+    let answer = case_file::decoded(file, &head, &mut chunk, &mut pools)?;
+    if !skipped(file, &head)? {
+        totals.count(Outcome::Lost);
+    } else if let Ok(accepted) = answer {
+        run_accepted(&head, accepted, &pools, &chunk, totals);
     }
-    Ok(counted(t, Outcome::Lost))
+    Ok(())
 }
 
 // Runs the next so many cases.
-fn all(file: &mut File, cases: u64) -> io::Result<Totals> {
-    let mut t = Totals {
+fn all(file: &mut File, cases: u32) -> io::Result<Totals> {
+    let mut totals = Totals {
         restored: 0,
         lost: 0,
         refused: 0,
@@ -451,80 +338,65 @@ fn all(file: &mut File, cases: u64) -> io::Result<Totals> {
         wrong: 0,
     };
     for _ in 0..cases {
-        t = next(file, t)?;
+        next(file, &mut totals)?;
     }
-    Ok(t)
+    Ok(totals)
 }
 
-// Lays an operand row that says its three indices are operands, each of them this row, and so many rows and dwords in its tree.
-fn nest(rows: &mut [u32], i: usize, child: u32, left: u32) {
-    if FIRST_WORD <= i {
-        return;
-    }
-    set(rows, i + 6, 3);
-    set(rows, i + 7, 2 + 2 * 8 + 2 * 64);
-    set(rows, i + 11, child);
-    set(rows, i + 12, child);
-    set(rows, i + 13, child);
-    set(rows, i + 14, left);
-    set(rows, i + 15, left);
-}
-
-// Lays 256 such rows: each is made of the next three times over, or of the first if the step is 0.
-fn nest_all(rows: &mut [u32], step: u32) {
-    let mut child: u32 = 0;
-    let mut left: u32 = 256;
-    let mut i = FIRST_OPERAND;
-    while i < FIRST_WORD {
-        child = std::num::wrapping_add_u32(child, step);
-        nest(rows, i, child, left);
-        left = std::num::wrapping_sub_u32(left, 1);
-        i += 16;
+// Lays 256 operand rows that say their three indices are operands, and how many rows and dwords are in their trees: each is made of the next
+// three times over, or all of the first, which is without end.
+fn nest_all(rows: &mut [u32; END], endless: bool) {
+    let operands = rows[FIRST_OPERAND..FIRST_WORD].chunks_exact_mut(16);
+    for ((row, next), left) in operands.zip(1..257).zip((1..257).rev()) {
+        row[6] = 3;
+        row[7] = 2 + 2 * 8 + 2 * 64;
+        row[11..14].fill(if endless { 0 } else { next });
+        row[14..].fill(left);
     }
 }
 
 // Whether rows and words are refused with 15, with so many rows and with counts that are past every pool.
-fn refused(rows: &[u32]) -> bool {
-    let few = Told {
-        edition: 3,
+fn refused(rows: &[u32; END]) -> bool {
+    let few = Accepted {
         version: 0x50,
         instructions: 1,
         operands: 256,
         words: 0,
     };
-    let most = Told {
-        edition: 3,
+    let most = Accepted {
         version: 0x50,
-        instructions: 0xFFFF_FFFF,
-        operands: 0xFFFF_FFFF,
-        words: 0xFFFF_FFFF,
+        instructions: u32::MAX,
+        operands: u32::MAX,
+        words: u32::MAX,
     };
-    let a = gives(few, rows, b"", 2048, 15, 0);
-    let b = gives(most, rows, b"", 2048, 15, 0);
-    a && b
+    [few, most].iter().all(|accepted| {
+        let told = Told {
+            edition: 3,
+            accepted: *accepted,
+        };
+        gives(told, rows, b"", 2048, Err(Refusal::NoReading))
+    })
 }
 
 // Whether rows are refused that an encoder which follows their child rows would take for a tree with 3 to the power of 256 rows, or for one
 // without end. The instruction has one operand.
 fn hostile_refused() -> bool {
     let mut rows = no_rows();
-    set(&mut rows, 0, 8);
-    set(&mut rows, 1, 127);
-    set(&mut rows, 2, 4);
-    set(&mut rows, 3, 1);
-    set(&mut rows, 13, 1);
-    nest_all(&mut rows, 1);
-    let a = refused(&rows);
-    nest_all(&mut rows, 0);
-    let b = refused(&rows);
-    a && b
+    rows[0] = 8;
+    rows[1] = 127;
+    rows[2] = 4;
+    rows[3] = 1;
+    rows[13] = 1;
+    nest_all(&mut rows, false);
+    let deep_refused = refused(&rows);
+    nest_all(&mut rows, true);
+    deep_refused && refused(&rows)
 }
 
 // Prints how many accepted cases are restored and how many are not, and what came of the changes.
-fn print_totals(rt: &impl Print, t: Totals) -> io::Result<()> {
+fn print_totals(rt: &impl Print, t: &Totals) -> io::Result<()> {
     println!(rt; "{} restored, {} wrong", t.restored, t.lost)?;
-    let right = std::num::wrapping_add_u64(t.refused, t.read_back);
-    let changed = std::num::wrapping_add_u64(right, t.wrong);
+    let changed = t.refused.wrapping_add(t.read_back).wrapping_add(t.wrong);
     println!(rt;
         "{changed} changed: {} refused, {} read back, {} wrong",
         t.refused, t.read_back, t.wrong
@@ -534,9 +406,11 @@ fn print_totals(rt: &impl Print, t: Totals) -> io::Result<()> {
 // Runs the cases and the hostile rows; what is left of the file is lost too.
 fn report(rt: &impl Print, file: &mut File) -> io::Result<()> {
     let cases = case_file::number_of_cases(file)?;
-    let mut t = all(file, cases)?;
-    t.lost = std::num::wrapping_add_u64(t.lost, case_file::left_over(file)?);
-    print_totals(rt, t)?;
+    let mut totals = all(file, cases)?;
+    if case_file::left_over(file)? {
+        totals.count(Outcome::Lost);
+    }
+    print_totals(rt, &totals)?;
     if hostile_refused() {
         return println!(rt; "hostile rows refused");
     }

@@ -1,9 +1,0 @@
--- `begins` is safe and ends: it compares each byte once.
-use Rattle.std.proofs.Common.{◌-◌, ◌≤◌}
-use Rattle.restored.proofs.begins.Given as goal
-
-abbrev pub invariant-loop-i : goal.invariant-loop-i
-invariant-loop-i l = l.i ≤ l.n
-
-abbrev pub decreases-loop-i : goal.decreases-loop-i
-decreases-loop-i l = l.n - l.i
