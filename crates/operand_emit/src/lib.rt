@@ -47,7 +47,7 @@ fn pack(row: &[u32; 16]) -> u32
     requires { w.Fits row.now }
     ensures { result + length (e.extension_of (e.at 3 row.now)) * 2 ^ 31 ≡ e.operand_dword row.now }
 {
-    LOW[row[1] as usize] + row[2] * 0x10 + row[0] * 0x1000 + row[6] * 0x10_0000 + row[7] * 0x40_0000
+    (((row[7] * 4 + row[6]) * 0x100 + row[0]) * 0x100 + row[2]) * 0x10 + LOW[row[1] as usize]
 }
 
 // Stores an operand's dword and the extension of its modifiers; gives the dword of the output behind them.
@@ -99,7 +99,8 @@ fn index(
     emit(operands, words, next, left - 1, output)
 }
 
-// Writes an operand with an operand in it: its dword and extension, and behind them its indices.
+// Writes an operand with an operand in it: its dword and extension, and behind them its indices. It stands apart, so that `emit`
+// can be inlined: few operands come here.
 #[cycle(emit_index_tree)]
 #[inline(never)]
 fn tree(
