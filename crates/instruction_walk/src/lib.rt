@@ -55,6 +55,7 @@ fn ready(instruction: &[u32; 16], place: usize, row: usize, word: usize, words: 
 }
 
 // Counts the dwords of the chain that words 8 to 11 of a row tell, if one is told so. Most rows tell of none.
+#[tactic(auto, using(crate::proofs::Chain::unlinked))]
 #[inline(always)]
 fn linked(instruction: &[u32; 16]) -> Option<usize>
     ensures { Counts (Linked instruction.now) (length (chain_in instruction.now)) result }
@@ -211,6 +212,7 @@ fn short_declaration(
 
 // Walks the instruction that `walk` walks, of a code with a count or of a declaration, where its row is usual and its operands
 // stand alone, as many as the row tells, or have one operand in an index. None says nothing.
+#[tactic(auto, using(crate::proofs::Ceiling::quick_known, crate::proofs::Ceiling::if_known))]
 fn usual(instruction: &[u32; 16], place: usize, rules: Rules, pools: &Pools) -> Option<Walked>
     ensures { IfSome result (λ x. Some x ≡ walked_instruction (c.confirm_instruction rules.ceiling rules.model51 instruction.now place (rows_in pools.now) (words_in pools.now) pools.now.row pools.now.word)) }
 {
@@ -229,6 +231,7 @@ fn usual(instruction: &[u32; 16], place: usize, rules: Rules, pools: &Pools) -> 
 }
 
 // Walks it the general way. It is kept out of the loops of callers, most of whose rows do not come here.
+#[tactic(auto, using(crate::proofs::Ceiling::by_unread, crate::proofs::Ceiling::by_known))]
 #[inline(never)]
 fn general(instruction: &[u32; 16], place: usize, rules: Rules, pools: &Pools) -> Option<Walked>
     ensures { result ≡ walked_instruction (c.confirm_instruction rules.ceiling rules.model51 instruction.now place (rows_in pools.now) (words_in pools.now) pools.now.row pools.now.word) }
