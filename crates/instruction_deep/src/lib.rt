@@ -330,6 +330,7 @@ fn bare(instruction: &[u32; 16], dwords: usize, code: u32) -> bool
 }
 
 // Walks an instruction that is unread: its words are its dwords.
+#[tactic(auto, using(crate::proofs::Ways::no_words, crate::proofs::Ways::other_length, crate::proofs::Ways::not_bare, crate::proofs::Ways::misplaced_unread, crate::proofs::Ways::walks_unread))]
 pub fn unread(instruction: &[u32; 16], place: usize, pools: &Pools) -> Option<Walked>
     ensures { result ≡ walked_instruction (c.confirm_unread instruction.now place [] (words_in pools.now) pools.now.row pools.now.word) }
 {

@@ -127,6 +127,7 @@ fn by_count(instruction: &[u32; 16], place: usize, pools: &Pools, count: u32) ->
 }
 
 // Whether a token holds a field as it is, within its bounds. No field that begins at another bit than 11 is bounded.
+#[tactic(auto, using(crate::proofs::Fitting::far_fits, crate::proofs::Fitting::bounded_fits))]
 fn field_fits(s: Shape, f: u32) -> bool
     requires { Sound s × Stepped s }
     ensures { result ≡ true → Fitting s f }
@@ -158,6 +159,7 @@ fn only_field(instruction: &[u32; 16], s: Shape) -> bool
 
 // Past an operand that stands alone and has no extension, at the pools' row and a word, if there is to be one. None says
 // nothing.
+#[tactic(auto, using(crate::proofs::Declared::no_lone, crate::proofs::Declared::lone_fits, crate::proofs::Declared::one_lone))]
 fn past_lone(pools: &Pools, at: usize, count: u32) -> Option<usize>
     requires { (at ≤ length pools.now.words.now) × (count ≤ 1) }
     ensures { Lone count pools.now.operands.now pools.now.words.now pools.now.row at result }
