@@ -128,7 +128,9 @@ static DECLARATIONS: [u32; 40] = [
 ];
 
 // A code's operand count, by comparisons, if it has one. Even and odd codes stand in arms of their own: neighbours in one arm would be
-// compared as a range, and one range after the other, where single codes become one table.
+// compared as a range, and one range after the other, where single codes become one table. Each instruction is looked up twice: so the
+// look-up is part of its callers.
+#[inline(always)]
 #[tactic(auto, unfolding(format::specs::Counts::numbers, format::specs::Counts::within, format::specs::Counts::line_of, format::specs::Counts::operand_count))]
 pub fn operand_count(code: u32) -> Option<u32>
     ensures { result ≡ counted (operand_count code) }
