@@ -10,7 +10,6 @@ use format::{Answer, Refusal};
 use std::fs::File;
 use std::io;
 use std::io::{ErrorKind, Read};
-use tokens::dword;
 
 // How many bytes a head has.
 pub const HEAD: usize = 56;
@@ -84,27 +83,36 @@ pub fn large_buffer() -> [u8; 65536]
     [0; 65536]
 }
 
+// The dword at a place, or 0 past the end.
+pub fn at(part: &[u8], k: usize) -> u32
+    ensures { result ≡ h.dword_at part.now k }
+{
+    if k < tokens::dwords(part) {
+        return tokens::dword(part, k);
+    }
+    0
+}
+
 impl Head {
-    // The dwords of a head, in their order.
-    #[tactic(auto, using(format::proofs::Dwords::length_dwords))]
-    pub fn read(bytes: &[u8; HEAD]) -> Head
+    // The dwords of a head, in their order; one that is missing is 0.
+    pub fn read(bytes: &[u8]) -> Head
         ensures { result ≡ h.head_of bytes.now }
     {
         Head {
-            four_cc: dword(bytes, 0),
-            edition: dword(bytes, 1),
-            size: dword(bytes, 2),
-            given: dword(bytes, 3),
-            lent_instructions: dword(bytes, 4),
-            lent_operands: dword(bytes, 5),
-            lent_words: dword(bytes, 6),
-            before: dword(bytes, 7),
-            number: dword(bytes, 8),
-            version_or_place: dword(bytes, 9),
-            instructions: dword(bytes, 10),
-            operands: dword(bytes, 11),
-            words: dword(bytes, 12),
-            questions: dword(bytes, 13),
+            four_cc: at(bytes, 0),
+            edition: at(bytes, 1),
+            size: at(bytes, 2),
+            given: at(bytes, 3),
+            lent_instructions: at(bytes, 4),
+            lent_operands: at(bytes, 5),
+            lent_words: at(bytes, 6),
+            before: at(bytes, 7),
+            number: at(bytes, 8),
+            version_or_place: at(bytes, 9),
+            instructions: at(bytes, 10),
+            operands: at(bytes, 11),
+            words: at(bytes, 12),
+            questions: at(bytes, 13),
         }
     }
 
@@ -156,19 +164,18 @@ impl Head {
 }
 
 impl Question {
-    // The dwords of a question, in their order.
-    #[tactic(auto, using(format::proofs::Dwords::length_dwords))]
-    pub fn read(bytes: &[u8; QUESTION]) -> Question {
+    // The dwords of a question, in their order; one that is missing is 0.
+    pub fn read(bytes: &[u8]) -> Question {
         Question {
-            row: dword(bytes, 0),
-            count: dword(bytes, 1),
-            start: dword(bytes, 2),
-            length: dword(bytes, 3),
-            shown: dword(bytes, 4),
-            bits: dword(bytes, 5),
-            u: dword(bytes, 6),
-            v: dword(bytes, 7),
-            w: dword(bytes, 8),
+            row: at(bytes, 0),
+            count: at(bytes, 1),
+            start: at(bytes, 2),
+            length: at(bytes, 3),
+            shown: at(bytes, 4),
+            bits: at(bytes, 5),
+            u: at(bytes, 6),
+            v: at(bytes, 7),
+            w: at(bytes, 8),
         }
     }
 }
@@ -211,14 +218,18 @@ fn fill(pool: &mut [u32], first: u32) {
 }
 
 // Lends the parts of the chunk and of the pools that a case names to the reader. Where there is less, the answer is one that no chunk gives.
-fn lend(head: &Head, chunk: &[u8], pools: &mut Pools) -> Answer {
+fn lend(
+    head: &Head,
+    chunk: &[u8],
+    instructions: &mut [u32],
+    operands: &mut [u32],
+    words: &mut [u32],
+) -> Answer {
     let (Some(chunk), Some(instructions), Some(operands), Some(words)) = (
         chunk.get(..head.size as usize),
-        pools
-            .instructions
-            .get_mut(..head.lent_instructions as usize),
-        pools.operands.get_mut(..head.lent_operands as usize),
-        pools.words.get_mut(..head.lent_words as usize),
+        instructions.get_mut(..head.lent_instructions as usize),
+        operands.get_mut(..head.lent_operands as usize),
+        words.get_mut(..head.lent_words as usize),
     ) else {
         return Err(Refusal::OutputShort);
     };
@@ -238,19 +249,21 @@ pub fn decoded(
     file: &mut File,
     head: &Head,
     chunk: &mut [u8],
-    pools: &mut Pools,
+    instructions: &mut [u32],
+    operands: &mut [u32],
+    words: &mut [u32],
 ) -> io::Result<Answer>
-    ensures instructions_kept { OnErr result (pools.new.instructions ≡ pools.old.instructions) }
-    ensures operands_kept { OnErr result (pools.new.operands ≡ pools.old.operands) }
-    ensures words_kept { OnErr result (pools.new.words ≡ pools.old.words) }
+    ensures instructions_kept { OnErr result (instructions.new ≡ instructions.old) }
+    ensures operands_kept { OnErr result (operands.new ≡ operands.old) }
+    ensures words_kept { OnErr result (words.new ≡ words.old) }
 {
     if !read_front(file, chunk, head.given as usize)? {
         return Ok(Err(Refusal::OutputShort));
     }
-    fill(&mut pools.instructions, head.instruction_pool().before);
-    fill(&mut pools.operands, head.operand_pool().before);
-    fill(&mut pools.words, head.word_pool().before);
-    Ok(lend(head, chunk, pools))
+    fill(instructions, head.instruction_pool().before);
+    fill(operands, head.operand_pool().before);
+    fill(words, head.word_pool().before);
+    Ok(lend(head, chunk, instructions, operands, words))
 }
 
 // Whether a part holds the n words of the pool from a place on.

@@ -143,7 +143,14 @@ fn next_is_right(file: &mut File) -> io::Result<Option<bool>> {
     let head = Head::read(&head);
     let mut chunk = case_file::no_bytes();
     let mut pools = Pools::new();
-    let answer = case_file::decoded(file, &head, &mut chunk, &mut pools)?;
+    let answer = case_file::decoded(
+        file,
+        &head,
+        &mut chunk,
+        &mut pools.instructions,
+        &mut pools.operands,
+        &mut pools.words,
+    )?;
     Ok(Some(compared(file, &head, answer, &pools)?))
 }
 

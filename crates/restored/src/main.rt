@@ -319,7 +319,14 @@ fn next(file: &mut File, totals: &mut Totals) -> io::Result<()> {
     let head = Head::read(&head);
     let mut chunk = case_file::no_bytes();
     let mut pools = Pools::new();
-    let answer = case_file::decoded(file, &head, &mut chunk, &mut pools)?;
+    let answer = case_file::decoded(
+        file,
+        &head,
+        &mut chunk,
+        &mut pools.instructions,
+        &mut pools.operands,
+        &mut pools.words,
+    )?;
     if !skipped(file, &head)? {
         totals.count(Outcome::Lost);
     } else if let Ok(accepted) = answer {
