@@ -65,23 +65,53 @@ fn edits(path: &str) -> Vec<Edit> {
     all
 }
 
-/// A line as Rust has it; None for a line of the proofs.
-fn line_of(line: &str) -> Option<String> {
+/// The derives as Rust has them: `Drop` is no derive there, and a copy's values are all copied.
+fn derive_of(line: &str) -> String {
+    let named = line.trim().trim_start_matches("#[derive(").trim_end_matches(")]").split(", ");
+    let kept = named.filter(|name| !["Drop", "Clone", "Copy"].contains(name));
+    format!("#[derive({})]", ["Clone", "Copy"].into_iter().chain(kept).collect::<Vec<_>>().join(", "))
+}
+
+/// A line as Rust has it, in a crate with these modules; None for a line of the proofs.
+fn line_of(line: &str, modules: &[&str]) -> Option<String> {
     let start = line.trim_start();
-    if ["ghost use", "#![tactic(", "#[cycle(", "#[derive("].iter().any(|word| start.starts_with(word)) {
+    if ["ghost ", "pub ghost ", "#![tactic(", "#[cycle(", "#[tactic("].iter().any(|word| start.starts_with(word)) {
         return None;
     }
     if start.starts_with("requires ") || start.starts_with("ensures ") {
-        assert!(line.ends_with(" }"), "a contract ends with its line: {line}");
-        return None;
+        assert!(line.ends_with(['}', ';']), "a contract ends with its line: {line}");
+        return line.ends_with(';').then(|| ";".to_string());
     }
-    if let Some(path) = line.strip_prefix("use ") {
-        return Some(format!("use crate::{path}"));
+    if start.starts_with("#[derive(") {
+        return Some(derive_of(line));
     }
-    let is_type = ["enum ", "struct ", "pub enum ", "pub struct "].iter().any(|word| line.starts_with(word));
-    let derive = if is_type { "#[derive(Clone, Copy)]\n" } else { "" };
-    let line = line.replace("std::num::wrapping_sub_u32(", "u32::wrapping_sub(");
-    Some(format!("{derive}{line}"))
+    match line.strip_prefix("use ") {
+        Some(path) if path.starts_with("std::") || path.starts_with("super::") => Some(line.to_string()),
+        Some(path) if modules.iter().any(|name| path.starts_with(&format!("{name}::"))) => Some(format!("use self::{path}")),
+        Some(path) => Some(format!("use crate::{path}")),
+        _ => Some(line.replace("std::num::wrapping_sub_u32(", "u32::wrapping_sub(")),
+    }
+}
+
+/// The text of a file and of the modules that it names, with these changes, of which the count is added to `used`.
+fn module(name: &str, path: &str, edits: &[Edit], used: &mut usize) -> String {
+    let mut text = fs::read_to_string(path).expect("the source of a crate");
+    for edit in edits.iter().filter(|edit| edit.file == path) {
+        assert_eq!(text.matches(&edit.old).count(), 1, "{path} has just once: {}", edit.old);
+        text = text.replace(&edit.old, &edit.new);
+        *used += 1;
+    }
+    let modules: Vec<&str> = text.lines().filter_map(|line| line.strip_prefix("mod ")?.strip_suffix(';')).collect();
+    let mut out = format!("mod {name} {{\nuse crate::{{{}}};\n", CRATES.join(", "));
+    for line in text.lines().filter(|line| !line.starts_with("mod ")).filter_map(|line| line_of(line, &modules)) {
+        out += &line;
+        out.push('\n');
+    }
+    let folder = path.rsplit_once('/').map_or("", |(folder, _)| folder);
+    for name in modules {
+        out += &module(name, &format!("{folder}/{name}.rt"), edits, used);
+    }
+    out + "}\n"
 }
 
 fn main() {
@@ -90,19 +120,7 @@ fn main() {
     let mut out = String::from("#![allow(unused, clippy::all)]\n");
     let mut used = 0;
     for name in CRATES {
-        let path = format!("crates/{name}/src/lib.rt");
-        let mut text = fs::read_to_string(&path).expect("the source of a crate");
-        for edit in edits.iter().filter(|edit| edit.file == path) {
-            assert_eq!(text.matches(&edit.old).count(), 1, "{path} has just once: {}", edit.old);
-            text = text.replace(&edit.old, &edit.new);
-            used += 1;
-        }
-        out += &format!("mod {name} {{\nuse crate::{{{}}};\n", CRATES.join(", "));
-        for line in text.lines().filter_map(line_of) {
-            out += &line;
-            out.push('\n');
-        }
-        out += "}\n";
+        out += &module(name, &format!("crates/{name}/src/lib.rt"), &edits, &mut used);
     }
     assert_eq!(used, edits.len(), "every change names a crate of shex");
     out += "
