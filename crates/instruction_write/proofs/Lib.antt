@@ -3,4 +3,5 @@ pub mod Rowed
 pub mod Looping
 pub mod Parted
 pub mod Knowing
+pub mod Counting
 mod Plainly

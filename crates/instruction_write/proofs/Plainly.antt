@@ -2,25 +2,23 @@
 use Prim.Native.Nat.{ℕ, ◌^◌, ◌<◌}
 use mathlib.Core.Path.{◌≡◌, refl, sym, ap, ◌∙◌}
 use mathlib.Core.List.{List, [], ◌∷◌}
-use mathlib.Core.Bool.{Bool, true, false, cond}
-use mathlib.Core.Option.{Option, none, some}
-use mathlib.Core.Logic.{◌⊎◌, inl, inr}
-use native.Mathlib.Omega.{arith}
+use mathlib.Core.Bool.{Bool, true, false}
+use mathlib.Core.Option.{some}
 use lib.Dec.{eqb}
 use lib.ListN.{drop}
 use lib.Seq.{slice}
 use borrow.Author.Tests.{ne_eqb}
 use Rattle.format.specs.Dwords.{bits, got, chain}
 use Rattle.format.specs.Framing.{code, long}
-use Rattle.format.specs.Counts.{numbers, within, line_of, ◌‥◌, operand_count, of_type, type_bits}
-use Rattle.format.specs.Declarations.{Item, tail, Field, no, from, declarations, Layout, by_count, in_table, layout, field_in}
+use Rattle.format.specs.Counts.{numbers, within, line_of, operand_count, of_type, type_bits}
+use Rattle.format.specs.Declarations.{Layout, in_table, layout, field_in}
 use Rattle.format.specs.Instructions.{read_head, fields_of, extensions}
 use Rattle.format.proofs.Each.{absent}
 use Rattle.layouts.specs.declared.Shape.{Shape}
 use Rattle.layouts.specs.Shapes.{Laid, kind_number, meant, field_of}
 use Rattle.instruction_fields.specs.Fields.{plain_token}
 use Rattle.instruction_fields.proofs.Counted.{laid, short, chain_head, unfollowed, field_none, test_is}
-use Rattle.instruction_write.specs.Writes.{row_for}
+use Rattle.instruction_write.specs.Writes.{counted_shape, row_for}
 
 -- the row, from the token's bits
 pub plain_row_is : (t n : ℕ) → operand_count (code t) ≡ some n → plain_token t ≡ true → t < 2 ^ 32 → (code t ≡ 190 → ⊥) → (at k l r j w m : ℕ) → k ≡ l
@@ -30,49 +28,22 @@ plain_row_is t n h p small other at k l r j w m e =
     let ne = ne_eqb (code t) 190 other in
     rw (e, laid (code t) n h, ne, test_is t n h p small, field_none t n h p small ne, short t n h)
 
--- a row of the table declares
-in_table_kind : (l : List (List ℕ × Field × List Item)) (c : ℕ) (x : Layout) → ((in_table l c x).kind ≡ 4) ⊎ (in_table l c x ≡ x)
-unfolding in_table
-in_table_kind [] c x = inr refl
-in_table_kind (r ∷ l) c x = go (within c r.0) (in_table_kind l c x)
-  where
-    go : (b : Bool) → ((in_table l c x).kind ≡ 4) ⊎ (in_table l c x ≡ x) → ((cond b (record { kind = 4; field = r.1; items = r.2 }) (in_table l c x)).kind ≡ 4) ⊎ (cond b (record { kind = 4; field = r.1; items = r.2 }) (in_table l c x) ≡ x)
-    go true k = inl refl
-    go false k = k
+-- it is the row of its shape, behind whose token nothing stands before the operands
+module _ (t n : ℕ) (h : operand_count (code t) ≡ some n) (p : plain_token t ≡ true) (small : t < 2 ^ 32) (other : code t ≡ 190 → ⊥) (ds : List ℕ) (end : ℕ)
+    (hd : read_head (meant (counted_shape (code t) n)) t (drop 1 ds) ≡ got (slice 1 end ds) (drop end ds)) where
+  bare : slice 1 end ds ≡ []
+  unfolding chain
+  bare =
+      let e : got (slice 1 end ds) (drop end ds) ≡ chain false (drop 1 ds) = sym hd ∙ ap (λ (x : Layout). read_head x t (drop 1 ds)) (sym (laid (code t) n h)) ∙ chain_head t n h (drop 1 ds) ∙ ap (λ (b : Bool). chain b (drop 1 ds)) (unfollowed t n h p small) in
+      go (drop 1 ds) e
+    where
+      go : (l : List ℕ) → got (slice 1 end ds) (drop end ds) ≡ chain false l → slice 1 end ds ≡ []
+      go [] q = cc
+      go (x ∷ l) q = cc
 
--- a code of kind 1 has a count
-pub kind_counts : (c : ℕ) → (layout c).kind ≡ 1 → (n : ℕ) × (operand_count c ≡ some n)
-unfolding layout
-kind_counts c e = go (operand_count c) refl e
-  where
-    uncounted : (a b : Bool) → (cond a (record { kind = 3; field = no; items = [] }) (cond b (record { kind = 5; field = from 11 15; items = tail ∷ [] }) (in_table declarations c (by_count c none)))).kind ≡ 1 → ⊥
-    uncounted true b z = omega (arith, z)
-    uncounted false true z = omega (arith, z)
-    uncounted false false z = elim (in_table_kind declarations c (by_count c none)) [ inl y ↦ omega (arith, y, z) | inr y ↦ let w : (in_table declarations c (by_count c none)).kind ≡ 2 = ap (λ (x : Layout). x.kind) y in omega (arith, w, z) ]
-
-    go : (k : Option ℕ) → operand_count c ≡ k → (cond (within c (113 ‥ 116)) (record { kind = 3; field = no; items = [] }) (cond (eqb c 53) (record { kind = 5; field = from 11 15; items = tail ∷ [] }) (in_table declarations c (by_count c k)))).kind ≡ 1 → (n : ℕ) × (operand_count c ≡ some n)
-    go (some n) q z = (n, q)
-    go none q z = absurd (uncounted (within c (113 ‥ 116)) (eqb c 53) z)
-
--- it is the row of a shape of the code, behind whose token nothing stands before the operands
-module _ (t : ℕ) (s : Shape) (la : Laid (code t) s) (counted : kind_number s.kind ≡ 1) (p : plain_token t ≡ true) (small : t < 2 ^ 32) (other : code t ≡ 190 → ⊥) where
-  count : (n : ℕ) × (operand_count (code t) ≡ some n)
-  count = kind_counts (code t) (ap (λ (x : Layout). x.kind) (sym la.meaning) ∙ counted)
-
-  module _ (ds : List ℕ) (end : ℕ) (hd : read_head (meant s) t (drop 1 ds) ≡ got (slice 1 end ds) (drop end ds)) where
-    bare : slice 1 end ds ≡ []
-    unfolding chain
-    bare =
-        let e : got (slice 1 end ds) (drop end ds) ≡ chain false (drop 1 ds) = sym hd ∙ ap (λ (x : Layout). read_head x t (drop 1 ds)) la.meaning ∙ chain_head t count.0 count.1 (drop 1 ds) ∙ ap (λ (b : Bool). chain b (drop 1 ds)) (unfollowed t count.0 count.1 p small) in
-        go (drop 1 ds) e
-      where
-        go : (l : List ℕ) → got (slice 1 end ds) (drop end ds) ≡ chain false l → slice 1 end ds ≡ []
-        go [] q = cc
-        go (x ∷ l) q = cc
-
-    pub plain_row_at : (at k l r j w m : ℕ) → k ≡ l
-        → at ∷ k ∷ code t ∷ 1 ∷ bits 13 13 t ∷ bits 18 18 t ∷ bits 19 22 t ∷ 0 ∷ 0 ∷ 0 ∷ 0 ∷ 0 ∷ r ∷ j ∷ w ∷ m ∷ [] ≡ row_for (meant s) t (slice 1 end ds) at l r j w m
-    plain_row_at at k l r j w m e = plain_row_is t count.0 count.1 p small other at k l r j w m e ∙ (λ u. row_for (sym la.meaning u) t (sym bare u) at l r j w m)
+  pub plain_row_at : (at k l r j w m : ℕ) → k ≡ l
+      → at ∷ k ∷ code t ∷ 1 ∷ bits 13 13 t ∷ bits 18 18 t ∷ bits 19 22 t ∷ 0 ∷ 0 ∷ 0 ∷ 0 ∷ 0 ∷ r ∷ j ∷ w ∷ m ∷ [] ≡ row_for (meant (counted_shape (code t) n)) t (slice 1 end ds) at l r j w m
+  plain_row_at at k l r j w m e = plain_row_is t n h p small other at k l r j w m e ∙ (λ u. row_for (laid (code t) n h u) t (sym bare u) at l r j w m)
 
 -- the codes that have a test bit
 abbrev tests : List ℕ

@@ -11,6 +11,8 @@ use Rattle.format.specs.Instructions.{Instruction, Reading, ok, read_items, fiel
 use Rattle.format.specs.Rows.{parts_rows, parts_words, parts_table, parts, instruction_row}
 use Rattle.layouts.specs.declared.Shape.{Shape}
 use Rattle.layouts.specs.Shapes.{Sound, meant}
+use Rattle.layouts.specs.declared.Kind.TheVariants.{Counted}
+use Rattle.layouts.specs.Table.{plain_shape, width_of}
 use Rattle.operand_rows.specs.declared.Sums.{Sums}
 use Rattle.instruction_write.specs.declared.Place.{Place}
 use Rattle.instruction_write.specs.declared.Row.{Row}
@@ -62,6 +64,10 @@ bare p n c k m ws =
       word = p.word;
       words = ws;
     }
+
+-- the shape of a code of n operands
+abbrev pub counted_shape : ℕ → ℕ → Shape
+counted_shape c n = plain_shape Counted (width_of c) n true
 
 -- a row can be made: what stands after the token is exact, and the numbers fit
 pub record RowReady (s : Shape) (ds : List ℕ) (end words : ℕ) : Type 0 where

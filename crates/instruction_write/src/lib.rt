@@ -1,10 +1,12 @@
 // Writes an instruction that was accepted: its row, the rows of its operands and its words.
 #![tactic(auto)]
 
-ghost use Rattle.std.specs.Prelude.{◌≡◌, true, cond, ◌++◌, ◌^◌, ◌<◌, ◌≤◌, length, get_or, drop, ltb};
+ghost use Rattle.std.specs.Prelude.{◌≡◌, true, false, cond, ◌++◌, ◌^◌, ◌<◌, ◌≤◌, length, get_or, drop, ltb};
 ghost use Rattle.std.proofs.Math.Seq.{slice};
 ghost use Rattle.format.specs.Dwords.{got, dwords_of};
+ghost use Rattle.std.proofs.Math.Option.{none, some};
 ghost use Rattle.format.specs.Counts as ct;
+ghost use Rattle.format.specs.Counts.{operand_count};
 ghost use Rattle.format.specs.Framing.{code};
 ghost use Rattle.format.specs.Declarations.{layout};
 ghost use Rattle.format.specs.Instructions as ins;
@@ -15,7 +17,7 @@ use framing::long;
 use instruction_fields::{fields_of, head, plain};
 use layouts::{Kind, Shape, counted_layout, field_of, operand_count, uncounted_layout};
 use operand_rows::{Sums, copy, put_row};
-use tokens::{dword, dwords};
+use tokens::{chain, dword, dwords, follows};
 
 // Where an instruction begins in its chunk, in bytes, and where the rows of its operands and its words begin in their pools.
 #[derive(Clone, Copy, Drop)]
@@ -127,6 +129,7 @@ fn long_bit(t: u32) -> u32
 }
 
 // Writes so many operands from a place on, each into what the ones before it left of each pool.
+#[inline(always)]
 fn write_operands(
     part: &[u8],
     from: usize,
@@ -197,7 +200,7 @@ fn write_parts(
 }
 
 // An instruction that is to be written: its dwords, the first of them, and its place.
-#[derive(Drop)]
+#[derive(Clone, Copy, Drop)]
 struct Source<'a> {
     part: &'a [u8],
     token: u32,
@@ -206,9 +209,9 @@ struct Source<'a> {
 
 impl<'a> Source<'a> {
     // Its row, with so many operands and words, and without what its token and its extensions tell.
-    fn row(&self, kind: u32, operands: u32, words: usize) -> Row
-        requires { (length (dwords_of self.now.part.now) < 2 ^ 32) × (words < 2 ^ 32) }
-        ensures { result ≡ w.bare self.now.place (length (dwords_of self.now.part.now)) (code self.now.token) kind operands words }
+    fn row(self, kind: u32, operands: u32, words: usize) -> Row
+        requires { (length (dwords_of self.part.now) < 2 ^ 32) × (words < 2 ^ 32) }
+        ensures { result ≡ w.bare self.entry.place (length (dwords_of self.entry.part.now)) (code self.entry.token) kind operands words }
     {
         Row {
             offset: self.place.offset,
@@ -230,10 +233,10 @@ impl<'a> Source<'a> {
         }
     }
 
-    // The row of an instruction whose code is known, and whose chain or length dword ends at a place.
-    fn known_row(&self, s: Shape, end: usize, words: usize) -> Row
-        requires { w.RowReady s (dwords_of self.now.part.now) end words }
-        ensures { w.listed result ≡ w.row_for (meant s) self.now.token (slice 1 end (dwords_of self.now.part.now)) self.now.place.offset (length (dwords_of self.now.part.now)) self.now.place.row s.operands self.now.place.word words }
+    // The row of an instruction of so many operands, whose code is known, and whose chain or length dword ends at a place.
+    fn known_row(self, s: Shape, operands: u32, end: usize, words: usize) -> Row
+        requires { w.RowReady s (dwords_of self.part.now) end words }
+        ensures { w.listed result ≡ w.row_for (meant s) self.entry.token (slice 1 end (dwords_of self.entry.part.now)) self.entry.place.offset (length (dwords_of self.entry.part.now)) self.entry.place.row operands self.entry.place.word words }
     {
         let t = self.token;
         let to = chain_end(s.kind, end);
@@ -247,36 +250,61 @@ impl<'a> Source<'a> {
             offsets: of_type(self.part, 1, to, 1) / 0x200 % 0x1000,
             second: of_type(self.part, 1, to, 2) % 0x8000_0000,
             third: of_type(self.part, 1, to, 3) % 0x8000_0000,
-            ..self.row(s.kind.number(), s.operands, words)
+            ..self.row(s.kind.number(), operands, words)
         }
     }
 
-    // The same. Most instructions are counted and have a plain token, or declare and are not in the long form: their row is soon made. But a
-    // plain token of code 190 may have a field.
-    fn soon_row(&self, s: Shape, end: usize, words: usize) -> Row
-        requires { Laid (code self.now.token) s × w.RowReady s (dwords_of self.now.part.now) end words × (ins.read_head (meant s) self.now.token (drop 1 (dwords_of self.now.part.now)) ≡ got (slice 1 end (dwords_of self.now.part.now)) (drop end (dwords_of self.now.part.now))) }
-        ensures { w.listed result ≡ w.row_for (meant s) self.now.token (slice 1 end (dwords_of self.now.part.now)) self.now.place.offset (length (dwords_of self.now.part.now)) self.now.place.row s.operands self.now.place.word words }
+    // Stores the row of an instruction of n operands by its layout. It stays a function of its own, so that nothing is made ready for it where
+    // the token is plain.
+    #[inline(never)]
+    fn put_laid(self, n: u32, end: usize, words: usize, instructions: &mut [u32])
+        requires { (operand_count (code self.token) ≡ some n) × (16 ≤ length instructions.old) × w.RowReady (w.counted_shape (code self.token) n) (dwords_of self.part.now) end words }
+        ensures { instructions.new ≡ w.row_for (meant (w.counted_shape (code self.entry.token) n)) self.entry.token (slice 1 end (dwords_of self.entry.part.now)) self.entry.place.offset (length (dwords_of self.entry.part.now)) self.entry.place.row n self.entry.place.word words ++ drop 16 instructions.old }
+    {
+        let s = counted_layout(self.token % 2048, n);
+        put_row(instructions, self.known_row(s, n, end, words).numbers());
+    }
+
+    // Stores the row of an instruction of n operands. Most have a plain token, and their row is soon made. But a plain token of code 190 may
+    // have a field.
+    #[inline(always)]
+    fn put_counted(self, n: u32, end: usize, words: usize, instructions: &mut [u32])
+        requires { (operand_count (code self.token) ≡ some n) × (16 ≤ length instructions.old) × w.RowReady (w.counted_shape (code self.token) n) (dwords_of self.part.now) end words × (ins.read_head (meant (w.counted_shape (code self.token) n)) self.token (drop 1 (dwords_of self.part.now)) ≡ got (slice 1 end (dwords_of self.part.now)) (drop end (dwords_of self.part.now))) }
+        ensures { instructions.new ≡ w.row_for (meant (w.counted_shape (code self.entry.token) n)) self.entry.token (slice 1 end (dwords_of self.entry.part.now)) self.entry.place.offset (length (dwords_of self.entry.part.now)) self.entry.place.row n self.entry.place.word words ++ drop 16 instructions.old }
+    {
+        let t = self.token;
+        if !plain(t) || t % 2048 == 190 {
+            self.put_laid(n, end, words, instructions);
+            return;
+        }
+        let row = Row {
+            saturate: t / 0x2000 % 2,
+            test: t / 0x4_0000 % 2,
+            precise: t / 0x8_0000 % 16,
+            ..self.row(1, n, words)
+        };
+        put_row(instructions, row.numbers());
+    }
+
+    // The row of an instruction without a count. Most declare and are not in the long form: their row is soon made.
+    fn uncounted_row(self, s: Shape, end: usize, words: usize) -> Row
+        requires { Laid (code self.token) s × w.RowReady s (dwords_of self.part.now) end words }
+        ensures { w.listed result ≡ w.row_for (meant s) self.entry.token (slice 1 end (dwords_of self.entry.part.now)) self.entry.place.offset (length (dwords_of self.entry.part.now)) self.entry.place.row s.operands self.entry.place.word words }
     {
         let t = self.token;
         match s.kind {
-            Kind::Counted if plain(t) && t % 2048 != 190 => Row {
-                saturate: t / 0x2000 % 2,
-                test: t / 0x4_0000 % 2,
-                precise: t / 0x8_0000 % 16,
-                ..self.row(1, s.operands, words)
-            },
             Kind::Declaration if !long(t) => Row {
                 field: field_of(s, t),
                 ..self.row(4, s.operands, words)
             },
-            _ => self.known_row(s, end, words),
+            _ => self.known_row(s, s.operands, end, words),
         }
     }
 
     // Writes an instruction that is not read: a row, and all its dwords as words.
-    fn write_unread(&self, instructions: &mut [u32], words: &mut [u32]) -> Sizes
-        requires { w.UnreadRoom (length (dwords_of self.now.part.now)) (length instructions.old) (length words.old) }
-        ensures { w.Unread (dwords_of self.now.part.now) (code self.now.token) self.now.place.offset self.now.place.row self.now.place.word instructions.old words.old result instructions.new words.new }
+    fn write_unread(self, instructions: &mut [u32], words: &mut [u32]) -> Sizes
+        requires { w.UnreadRoom (length (dwords_of self.part.now)) (length instructions.old) (length words.old) }
+        ensures { w.Unread (dwords_of self.entry.part.now) (code self.entry.token) self.entry.place.offset self.entry.place.row self.entry.place.word instructions.old words.old result instructions.new words.new }
     {
         let n = dwords(self.part);
         copy(self.part, 0, n, words);
@@ -284,18 +312,69 @@ impl<'a> Source<'a> {
         Sizes { rows: 0, words: n }
     }
 
-    // Writes an instruction whose code is known, by its layout.
-    fn write_known(
-        &self,
-        s: Shape,
+    // Writes the operands of an instruction of n operands, from a place on, and all dwords behind them.
+    #[inline(always)]
+    fn write_counted_parts(
+        self,
+        at: usize,
+        n: u32,
+        operands: &mut [u32],
+        words: &mut [u32],
+    ) -> Sizes
+        requires { w.BodyRoom (ins.read_items false (items_of (w.counted_shape (code self.token) n)) (drop at (dwords_of self.part.now))) (length (dwords_of self.part.now)) at (length operands.old) (length words.old) self.place.row self.place.word }
+        ensures { w.WroteBody (ins.read_items false (items_of (w.counted_shape (code self.entry.token) n)) (drop at (dwords_of self.entry.part.now))) self.entry.place.row self.entry.place.word operands.old words.old result operands.new words.new }
+    {
+        let Place { row, word, .. } = self.place;
+        let x = write_operands(
+            self.part,
+            at,
+            n,
+            operands,
+            &mut words[0..],
+            row as usize,
+            word as usize,
+        );
+        let end = at + x.dwords;
+        let left = dwords(self.part) - end;
+        copy(self.part, end, left, &mut words[x.words..]);
+        Sizes {
+            rows: x.rows,
+            words: x.words + left,
+        }
+    }
+
+    // Writes an instruction whose code has n operands; in either model it is the same. Most instructions are counted and have a plain token,
+    // so their layout is made only where the token is not plain.
+    fn write_counted(
+        self,
+        n: u32,
+        instructions: &mut [u32],
+        operands: &mut [u32],
+        words: &mut [u32],
+    ) -> Sizes
+        requires { (self.token ≡ get_or (dwords_of self.part.now) 0 0) × (operand_count (code self.token) ≡ some n) × w.Ready (ins.judged (layout (code self.token)) (ins.split false (layout (code self.token)) (dwords_of self.part.now))) (dwords_of self.part.now) (length instructions.old) (length operands.old) (length words.old) self.place.offset self.place.row self.place.word }
+        ensures { w.Written (ins.judged (layout (code self.entry.token)) (ins.split false (layout (code self.entry.token)) (dwords_of self.entry.part.now))) self.entry.place.offset self.entry.place.row self.entry.place.word instructions.old operands.old words.old result instructions.new operands.new words.new }
+    {
+        let end = chain(self.part, 1, follows(self.token)).unwrap();
+        let x = self.write_counted_parts(end, n, operands, words);
+        self.put_counted(n, end, x.words, instructions);
+        x
+    }
+
+    // Writes an instruction whose code has no count, by its layout. It stays a function of its own, so that its layout takes no registers of the
+    // counted way.
+    #[inline(never)]
+    fn write_uncounted(
+        self,
         model51: bool,
         instructions: &mut [u32],
         operands: &mut [u32],
         words: &mut [u32],
     ) -> Sizes
-        requires { (self.now.token ≡ get_or (dwords_of self.now.part.now) 0 0) × Laid (code self.now.token) s × w.Ready (ins.judged (layout (code self.now.token)) (ins.split model51 (layout (code self.now.token)) (dwords_of self.now.part.now))) (dwords_of self.now.part.now) (length instructions.old) (length operands.old) (length words.old) self.now.place.offset self.now.place.row self.now.place.word }
-        ensures { w.Written (ins.judged (layout (code self.now.token)) (ins.split model51 (layout (code self.now.token)) (dwords_of self.now.part.now))) self.now.place.offset self.now.place.row self.now.place.word instructions.old operands.old words.old result instructions.new operands.new words.new }
+        requires { (self.token ≡ get_or (dwords_of self.part.now) 0 0) × (operand_count (code self.token) ≡ none) × w.Ready (ins.judged (layout (code self.token)) (ins.split model51 (layout (code self.token)) (dwords_of self.part.now))) (dwords_of self.part.now) (length instructions.old) (length operands.old) (length words.old) self.place.offset self.place.row self.place.word }
+        ensures { w.Written (ins.judged (layout (code self.entry.token)) (ins.split model51 (layout (code self.entry.token)) (dwords_of self.entry.part.now))) self.entry.place.offset self.entry.place.row self.entry.place.word instructions.old operands.old words.old result instructions.new operands.new words.new }
     {
+        let s = uncounted_layout(self.token % 2048);
         let end = head(self.part, s, self.token).unwrap();
         let Place { row, word, .. } = self.place;
         let x = write_parts(
@@ -308,7 +387,7 @@ impl<'a> Source<'a> {
             row as usize,
             word as usize,
         );
-        put_row(instructions, self.soon_row(s, end, x.words).numbers());
+        put_row(instructions, self.uncounted_row(s, end, x.words).numbers());
         x
     }
 }
@@ -332,9 +411,8 @@ pub fn write(
     if ceiling <= code {
         return source.write_unread(instructions, words);
     }
-    let s = match operand_count(code) {
-        Some(n) => counted_layout(code, n),
-        None => uncounted_layout(code),
-    };
-    source.write_known(s, model51, instructions, operands, words)
+    match operand_count(code) {
+        Some(n) => source.write_counted(n, instructions, operands, words),
+        None => source.write_uncounted(model51, instructions, operands, words),
+    }
 }
