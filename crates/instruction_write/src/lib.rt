@@ -301,7 +301,8 @@ impl<'a> Source<'a> {
         }
     }
 
-    // Writes an instruction that is not read: a row, and all its dwords as words.
+    // Writes an instruction that is not read: a row, and all its dwords as words. It stays a function of its own, as few go this way.
+    #[inline(never)]
     fn write_unread(self, instructions: &mut [u32], words: &mut [u32]) -> Sizes
         requires { w.UnreadRoom (length (dwords_of self.part.now)) (length instructions.old) (length words.old) }
         ensures { w.Unread (dwords_of self.entry.part.now) (code self.entry.token) self.entry.place.offset self.entry.place.row self.entry.place.word instructions.old words.old result instructions.new words.new }
