@@ -22,6 +22,15 @@ module _ (q : List ℕ) (place t : ℕ) (out : List ℕ) (et : t + length (exten
         Headed (head_of q) place out (place + 2) out₂
     headed_two h e₁ e₂ = rw (← dword_is, ← ex) (record { next_is = refl; output_is = dwords_more place (place + 1) ((t + 2147483648) ∷ []) (x ∷ []) out (omega (arith, ap length ex)) refl e₁ e₂ })
 
+  module _ (m : at 3 q ≡ 0) where
+    plain_dword : t ≡ operand_dword q
+    unfolding extension_of
+    plain_dword = omega (arith, et, ap (λ (j : ℕ). length (extension_of j)) m)
+
+    pub two_put : (x : ℕ) → 4 * (place + 2) ≤ length out → {out₁ out₂ : List ℕ} → out₁ ≡ put (4 * place) (bytes_of (t ∷ [])) out → out₂ ≡ put (4 * (place + 1)) (bytes_of (x ∷ [])) out₁ →
+        out₂ ≡ put (4 * place) (bytes_of (operand_dword q ∷ x ∷ [])) out
+    two_put x h e₁ e₂ = rw (← plain_dword) (dwords_more place (place + 1) (t ∷ []) (x ∷ []) out (omega arith) refl e₁ e₂)
+
 -- bit 31 is no part of a representation
 same_dimension : (t n : ℕ) → dimension t ≡ dimension (t + n * 2 ^ 31)
 same_dimension t n = omega arith

@@ -1,3 +1,4 @@
 pub mod Heads
 pub mod Opened
 pub mod Trees
+pub mod Word

@@ -1,6 +1,6 @@
 -- What a confirmed operand is made of, and what its row says.
-use Prim.Native.Nat.{ℕ, zero, suc, ◌+◌, ◌-◌, ◌%◌, ◌^◌, ◌<◌, ◌≤◌}
-use mathlib.Core.Path.{◌≡◌, refl, ap}
+use Prim.Native.Nat.{ℕ, zero, suc, ◌+◌, ◌-◌, ◌*◌, ◌%◌, ◌^◌, ◌<◌, ◌≤◌}
+use mathlib.Core.Path.{◌≡◌, refl, sym, ap, ◌∙◌}
 use mathlib.Core.Bool.{Bool, true, false, cond, ◌&&◌}
 use mathlib.Core.List.{List, [], ◌∷◌, ◌++◌, append_assoc}
 use mathlib.Core.Option.{Option, none as nothing, some as just}
@@ -8,7 +8,7 @@ use native.Mathlib.Numerals.{sub-one}
 use native.Mathlib.Omega.{arith}
 use lib.ListN.{length, take, drop, length-append}
 use lib.Dec.{leb, eqb, ltb}
-use borrow.Author.Tests.{leb-true, ltb-true}
+use borrow.Author.Tests.{leb-true, ltb-true, eqb-true}
 use Rattle.format.specs.Dwords.{bits}
 use Rattle.format.specs.Operands as op
 use Rattle.format.specs.Operands.{Tree, none, plain, node, immediate, immediates, repr, dwords}
@@ -21,6 +21,7 @@ use Rattle.format.proofs.Encoder.{same_eq}
 use Rattle.format.proofs.Rows.{four_lengths}
 use Rattle.operand_deep.proofs.Fields.{exact_below}
 use Rattle.operand_emit.specs.Emits.{head_of, Fits}
+use Rattle.operand_emit.proofs.Word.{Word, plain_if, word_of}
 
 pub every_self : {A : Type 0} (o : Option A) → Every (λ a. o ≡ just a) o
 every_self nothing = unmet
@@ -89,6 +90,7 @@ pub record Opened (p : Confirmer) (rs ws : List ℕ) (r w : ℕ) (x : Tree) : Ty
   pub dwords_are : at 15 (take 16 rs) ≡ length (dwords x)
   pub head_fits : length (head_of (take 16 rs)) ≤ length (dwords x)
   pub lone : tree_rows x ≡ 1 → dwords x ≡ head_of (take 16 rs) ++ tree_words x
+  pub word : at 6 (take 16 rs) ≡ 1 → at 7 (take 16 rs) ≡ 0 → Word x
   pub indices : (tree_rows x ≡ 1 → ⊥) → Indices p rs ws r w x
 
 module _ (p : Confirmer) (rs ws : List ℕ) (r w : ℕ) where
@@ -98,9 +100,10 @@ module _ (p : Confirmer) (rs ws : List ℕ) (r w : ℕ) where
   module _ (l : leb 16 (length rs) ≡ true) (x : op.exact_dword (operand_dword Q) ≡ true) where
     opened : (m : List ℕ) (a b c : Tree) → Q ≡ operand_row r w (operand_dword Q) (extension_of (at 3 Q)) m a b c →
         ((tree_rows (node (operand_dword Q) (extension_of (at 3 Q)) m a b c) ≡ 1 → ⊥) → Indices p rs ws r w (node (operand_dword Q) (extension_of (at 3 Q)) m a b c)) →
+        (op.dimension (operand_dword Q) ≡ 1 → op.reprs (operand_dword Q) ≡ 0 → Word (node (operand_dword Q) (extension_of (at 3 Q)) m a b c)) →
         Opened p rs ws r w (node (operand_dword Q) (extension_of (at 3 Q)) m a b c)
     unfolding operand_row
-    opened m a b c s f =
+    opened m a b c s f k =
         record {
           row_there = leb-true 16 (length rs) l;
           fits = fits_of Q r w m a b c x s;
@@ -108,23 +111,28 @@ module _ (p : Confirmer) (rs ws : List ℕ) (r w : ℕ) where
           dwords_are = ap (at 15) s;
           head_fits = head_within (operand_dword Q) (extension_of (at 3 Q)) m a b c;
           lone = one_row (operand_dword Q) (extension_of (at 3 Q)) m a b c;
+          word = λ d z. k (sym (ap (at 6) s) ∙ d) (sym (ap (at 7) s) ∙ z);
           indices = f;
         }
 
     every_opened : (m : List ℕ) (a b c : Tree) →
         ((tree_rows (node (operand_dword Q) (extension_of (at 3 Q)) m a b c) ≡ 1 → ⊥) → Indices p rs ws r w (node (operand_dword Q) (extension_of (at 3 Q)) m a b c)) →
+        (op.dimension (operand_dword Q) ≡ 1 → op.reprs (operand_dword Q) ≡ 0 → Word (node (operand_dword Q) (extension_of (at 3 Q)) m a b c)) →
         Every (Opened p rs ws r w) (confirmed Q r w (operand_dword Q) (extension_of (at 3 Q)) m a b c)
     unfolding confirmed
-    every_opened m a b c f = every_if (same Q _) _ _ (λ s. met (opened m a b c (same_eq Q _ s) f)) (λ s. unmet)
+    every_opened m a b c f k = every_if (same Q _) _ _ (λ s. met (opened m a b c (same_eq Q _ s) f k)) (λ s. unmet)
 
     leaf_rows : (m : List ℕ) → tree_rows (node (operand_dword Q) (extension_of (at 3 Q)) m none none none) ≡ 1
     unfolding tree_rows
     leaf_rows m = refl
 
+    no_index : {n : ℕ} → n ≡ 0 → n ≡ 1 → ⊥
+    no_index e d = impossible (omega (arith, e, d))
+
     opened_leaf : Every (Opened p rs ws r w) (confirm_immediates Q (operand_dword Q) (extension_of (at 3 Q)) ws r w)
     unfolding confirm_immediates
     opened_leaf = every_if (eqb (op.dimension (operand_dword Q)) 0 && leb (immediates (operand_dword Q)) (length ws)) _ _
-        (λ z. every_opened (take (immediates (operand_dword Q)) ws) none none none (λ n. absurd (n (leaf_rows (take (immediates (operand_dword Q)) ws)))))
+        (λ z. every_opened (take (immediates (operand_dword Q)) ws) none none none (λ n. absurd (n (leaf_rows (take (immediates (operand_dword Q)) ws)))) (λ d. absurd (no_index (eqb-true (op.dimension (operand_dword Q)) 0 (both _ _ z).0) d)))
         (λ z. unmet)
 
     opened_indices : Every (Opened p rs ws r w) (confirm_indices p Q (operand_dword Q) (extension_of (at 3 Q)) (drop 16 rs) ws r w)
@@ -133,7 +141,10 @@ module _ (p : Confirmer) (rs ws : List ℕ) (r w : ℕ) where
         every_then (every_self (confirm_index p (repr 0 (operand_dword Q)) (drop 16 rs) ws (r + 1) w)) (λ a ea.
         every_then (every_self (behind a (confirm_index p (repr 1 (operand_dword Q))) (drop 16 rs) ws (r + 1) w)) (λ b eb.
         every_then (every_self (behind a (behind b (confirm_index p (repr 2 (operand_dword Q)))) (drop 16 rs) ws (r + 1) w)) (λ c ec.
-        every_opened [] a b c (λ n. record { first = a; second = b; third = c; first_is = ea; second_is = eb; third_is = ec; is = refl }))))
+        every_opened [] a b c (λ n. record { first = a; second = b; third = c; first_is = ea; second_is = eb; third_is = ec; is = refl }) (λ d h. word_of (operand_dword Q) d h (extension_of (at 3 Q)) a b c
+        (plain_if p (repr 0 (operand_dword Q)) (drop 16 rs) ws (r + 1) w ea)
+        (plain_if p (repr 1 (operand_dword Q)) (drop (16 * tree_rows a) (drop 16 rs)) (drop (length (tree_words a)) ws) (r + 1 + tree_rows a) (w + length (tree_words a)) eb)
+        (plain_if p (repr 2 (operand_dword Q)) (drop (16 * tree_rows b) (drop (16 * tree_rows a) (drop 16 rs))) (drop (length (tree_words b)) (drop (length (tree_words a)) ws)) (r + 1 + tree_rows a + tree_rows b) (w + length (tree_words a) + length (tree_words b)) ec)))))
 
 opened_all : (k : ℕ) (rs ws : List ℕ) (r w : ℕ) → Every (Opened (confirm (k - 1)) rs ws r w) (confirm k rs ws r w)
 unfolding confirm confirm_front

@@ -2,12 +2,12 @@
 use Prim.Native.Nat.{ℕ, ◌+◌, ◌-◌, ◌*◌, ◌/◌, ◌^◌, ◌<◌, ◌≤◌}
 use mathlib.Core.Path.{◌≡◌, refl, sym, ap, subst, ◌∙◌}
 use mathlib.Core.Bool.{Bool, true, false, cond, ◌&&◌}
-use mathlib.Core.List.{List, [], ◌++◌, append-nil}
+use mathlib.Core.List.{List, [], ◌∷◌, ◌++◌, append-nil}
 use mathlib.Core.Option.{Option, some as just}
 use native.Mathlib.Nat.{add-zero}
 use native.Mathlib.Omega.{arith}
-use lib.ListN.{length, take, drop, length-append, length-drop}
-use lib.Seq.{length-take-le, drop-drop, take_at}
+use lib.ListN.{length, take, drop, get_or, length-append, length-drop}
+use lib.Seq.{length-take-le, drop-drop, drop-cons, take_at}
 use lib.Dec.{leb}
 use borrow.Author.Tests.{leb-true}
 use Rattle.format.specs.Dwords.{bytes_of}
@@ -24,6 +24,7 @@ use Rattle.operand_emit.specs.Emits.{row_from, standing, Ready, Emitted, head_of
 use Rattle.operand_emit.specs.declared.Place.{Place}
 use Rattle.output.proofs.Puts.{dwords_more}
 use Rattle.operand_emit.proofs.Heads.{same_first, same_second, same_third}
+use Rattle.operand_emit.proofs.Word.{Word}
 use Rattle.operand_emit.proofs.Opened.{every_self, Indices, Opened, opens, some_left}
 
 emitted_of : {o : Option Tree} {x : Tree} {first word place : ℕ} {out : List ℕ} {ends : Place} {out' : List ℕ} → o ≡ just x → Emitted (just x) first word place out ends out' → Emitted o first word place out ends out'
@@ -110,6 +111,10 @@ module _ (k i : ℕ) (rs ws : List ℕ) (from : Place) (out : List ℕ) (g : Rea
             at_is = ap (λ (j : ℕ). from.at + j) (sym l);
           }))
 
+-- ---- two neighbours that were compared at once with 1 and 0
+pub one_none : (a b : ℕ) → a < 2 ^ 32 → a + b * 2 ^ 32 ≡ 1 → (a ≡ 1) × (b ≡ 0)
+one_none a b l e = (omega (arith, l, e), omega (arith, l, e))
+
 -- ---- an operand
 module _ (left : ℕ) (rs ws : List ℕ) (from : Place) (out : List ℕ) (g : Ready (standing (confirm left) rs ws from.operand from.word) from.at (length out)) where
   whole : Opened (confirm (left - 1)) (drop from.operand rs) (drop from.word ws) (from.operand / 16) from.word g.tree
@@ -134,24 +139,30 @@ module _ (left : ℕ) (rs ws : List ℕ) (from : Place) (out : List ℕ) (g : Re
     pub head_room : 4 * (from.at + length (head_of q)) ≤ length out
     head_room = rw eq (omega (arith, whole.head_fits, g.room))
 
-    module _ {next : ℕ} {out₁ : List ℕ} (hd : Headed (head_of q) from.at out next out₁) where
-      -- with no operand in it
-      module _ (h : at 14 q ≡ 1) where
-        abbrev W : List ℕ
-        W = tree_words g.tree
+    -- with no operand in it
+    module _ (h : at 14 q ≡ 1) where
+      abbrev W : List ℕ
+      W = tree_words g.tree
 
-        lone_dwords : dwords g.tree ≡ head_of q ++ W
-        lone_dwords = rw eq (whole.lone (sym rows_are ∙ h))
+      lone_dwords : dwords g.tree ≡ head_of q ++ W
+      lone_dwords = rw eq (whole.lone (sym rows_are ∙ h))
 
-        lone_length : length (dwords g.tree) ≡ length (head_of q) + length W
-        lone_length = ap length lone_dwords ∙ length-append (head_of q) W
+      lone_length : length (dwords g.tree) ≡ length (head_of q) + length W
+      lone_length = ap length lone_dwords ∙ length-append (head_of q) W
 
-        words_front : drop from.word ws ≡ W ++ drop (length W) (drop from.word ws)
-        words_front = (sound left (drop from.operand rs) (drop from.word ws) (from.operand / 16) from.word g.tree g.is).words
+      words_front : drop from.word ws ≡ W ++ drop (length W) (drop from.word ws)
+      words_front = (sound left (drop from.operand rs) (drop from.word ws) (from.operand / 16) from.word g.tree g.is).words
 
-        pub end_within : 4 * (from.at + at 15 q) ≤ length out
-        end_within = omega (arith, dwords_are, g.room)
+      words_there : length W ≤ length ws - from.word
+      words_there = omega (arith, ap length words_front, length-append W (drop (length W) (drop from.word ws)), length-drop from.word ws)
 
+      front_words : (n : ℕ) → n ≡ length W → take n (drop from.word ws) ≡ W
+      front_words n e = ap (take n) words_front ∙ take_at W (drop (length W) (drop from.word ws)) n (sym e)
+
+      end_within : 4 * (from.at + at 15 q) ≤ length out
+      end_within = omega (arith, dwords_are, g.room)
+
+      module _ {next : ℕ} {out₁ : List ℕ} (hd : Headed (head_of q) from.at out next out₁) where
         pub head_within : next ≤ from.at + at 15 q
         head_within = omega (arith, dwords_are, lone_length, hd.next_is)
 
@@ -159,13 +170,13 @@ module _ (left : ℕ) (rs ws : List ℕ) (from : Place) (out : List ℕ) (g : Re
         left_is = omega (arith, dwords_are, lone_length, hd.next_is)
 
         pub words_room : (n : ℕ) → n ≡ length out → (from.at + at 15 q - next ≤ length ws - from.word) × (4 * (next + (from.at + at 15 q - next)) ≤ n)
-        words_room n en = (omega (arith, left_is, ap length words_front, length-append W (drop (length W) (drop from.word ws)), length-drop from.word ws), omega (arith, end_within, head_within))
+        words_room n en = (omega (arith, left_is, words_there), omega (arith, end_within, head_within))
 
         pub lone_emitted : {to : Place} {out₂ : List ℕ} → out₂ ≡ put (4 * next) (bytes_of (take (from.at + at 15 q - next) (drop from.word ws))) out₁ →
             to ≡ record { operand = from.operand + 16; word = from.word + (from.at + at 15 q - next); at = next + (from.at + at 15 q - next) } →
             Emitted (standing (confirm left) rs ws from.operand from.word) from.operand from.word from.at out to out₂
         lone_emitted {to} {out₂} e et =
-            let z : take (from.at + at 15 q - next) (drop from.word ws) ≡ W = ap (take (from.at + at 15 q - next)) words_front ∙ take_at W (drop (length W) (drop from.word ws)) (from.at + at 15 q - next) (sym left_is) in
+            let z : take (from.at + at 15 q - next) (drop from.word ws) ≡ W = front_words (from.at + at 15 q - next) left_is in
             rw (et) (emitted_of g.is (record {
               output_is = rw lone_dwords (dwords_more from.at next (head_of q) W out (omega (arith, head_room)) hd.next_is hd.output_is (rw z at e));
               operand_is = omega (arith, rows_are, h);
@@ -173,6 +184,43 @@ module _ (left : ℕ) (rs ws : List ℕ) (from : Place) (out : List ℕ) (g : Re
               at_is = omega (arith, dwords_are, head_within);
             }))
 
+    -- of one index of one dword, without an extension
+    module _ (d : at 6 q ≡ 1) (r : at 7 q ≡ 0) (m : at 3 q ≡ 0) where
+      word : Word g.tree
+      word = whole.word (ap (at 6) (sym eq) ∙ d) (ap (at 7) (sym eq) ∙ r)
+
+      no_operand : at 14 q ≡ 1
+      no_operand = rows_are ∙ word.one_row
+
+      head_is : head_of q ≡ operand_dword q ∷ []
+      unfolding extension_of
+      head_is = ap (λ (j : ℕ). operand_dword q ∷ extension_of j) m
+
+      two_dwords : length (dwords g.tree) ≡ 2
+      two_dwords = omega (arith, lone_length no_operand, ap length head_is, word.one_word)
+
+      pub two_room : 4 * (from.at + 2) ≤ length out
+      two_room = omega (arith, two_dwords, g.room)
+
+      pub word_there : from.word < length ws
+      word_there = omega (arith, words_there no_operand, word.one_word)
+
+      word_is : tree_words g.tree ≡ get_or ws from.word 0 ∷ []
+      word_is = sym (front_words no_operand 1 (sym word.one_word)) ∙ ap (take 1) (drop-cons ws from.word 0 word_there)
+
+      pub word_emitted : {to : Place} {out₁ : List ℕ} → out₁ ≡ put (4 * from.at) (bytes_of (operand_dword q ∷ get_or ws from.word 0 ∷ [])) out →
+          to ≡ record { operand = from.operand + 16; word = from.word + 1; at = from.at + 2 } →
+          Emitted (standing (confirm left) rs ws from.operand from.word) from.operand from.word from.at out to out₁
+      word_emitted {to} {out₁} e et =
+          let z : dwords g.tree ≡ operand_dword q ∷ get_or ws from.word 0 ∷ [] = lone_dwords no_operand ∙ (λ i. head_is i ++ word_is i) in
+          rw et (emitted_of g.is (record {
+            output_is = rw z e;
+            operand_is = omega (arith, word.one_row);
+            word_is = omega (arith, word.one_word);
+            at_is = omega (arith, two_dwords);
+          }))
+
+    module _ {next : ℕ} {out₁ : List ℕ} (hd : Headed (head_of q) from.at out next out₁) where
       -- by its indices
       module _ (h : at 14 q ≡ 1 → ⊥) where
         three : Indices (confirm (left - 1)) (drop from.operand rs) (drop from.word ws) (from.operand / 16) from.word g.tree

@@ -8,6 +8,7 @@ ghost use Rattle.output.specs.Puts.{put, Headed};
 ghost use Rattle.operand_deep.specs.Confirm as c;
 ghost use Rattle.operand_emit.specs.Emits as w;
 
+use operand_deep::pair;
 use output::{copy, put_dword};
 
 // Where the row of the next operand begins, the next word, and the next dword of the output.
@@ -41,13 +42,23 @@ fn extension(m: u32) -> Option<u32>
     Some(1 + m % 4 * 0x40 + m / 16 * 0x4000 + m / 4 % 2 * 0x2_0000)
 }
 
-// Makes an operand's dword from its row, but for bit 31, which tells of an extension.
+// Joins the dimension and the representations of a row.
 #[tactic(auto, unfolding(format::specs::Encoder::operand_dword))]
-fn pack(row: &[u32; 16]) -> u32
+fn indices(row: &[u32; 16]) -> u32
     requires { w.Fits row.now }
+    ensures { result ≡ e.at 7 row.now * 4 + e.at 6 row.now }
+{
+    row[7] * 4 + row[6]
+}
+
+// Makes an operand's dword from its row, whose dimension and representations were joined, but for bit 31, which tells of an
+// extension.
+#[tactic(auto, unfolding(format::specs::Encoder::operand_dword))]
+fn pack(row: &[u32; 16], indices: u32) -> u32
+    requires { w.Fits row.now × (indices ≡ e.at 7 row.now * 4 + e.at 6 row.now) }
     ensures { result + length (e.extension_of (e.at 3 row.now)) * 2 ^ 31 ≡ e.operand_dword row.now }
 {
-    (((row[7] * 4 + row[6]) * 0x100 + row[0]) * 0x100 + row[2]) * 0x10 + LOW[row[1] as usize]
+    ((indices * 0x100 + row[0]) * 0x100 + row[2]) * 0x10 + LOW[row[1] as usize]
 }
 
 // Stores an operand's dword and the extension of its modifiers; gives the dword of the output behind them.
@@ -55,7 +66,7 @@ fn head(row: &[u32; 16], output: &mut [u8], at: usize) -> usize
     requires { w.Fits row.now × (4 * (at + length (w.head_of row.now)) ≤ length output.old) }
     ensures { Headed (w.head_of row.now) at output.old result output.new }
 {
-    let t = pack(row);
+    let t = pack(row, indices(row));
     let Some(x) = extension(row[3]) else {
         put_dword(output, at, t);
         return at + 1;
@@ -63,6 +74,15 @@ fn head(row: &[u32; 16], output: &mut [u8], at: usize) -> usize
     put_dword(output, at, t + 0x8000_0000);
     put_dword(output, at + 1, x);
     at + 2
+}
+
+// Stores the dword of an operand of one index of one dword, without modifiers, and a word behind it.
+fn put_with_word(row: &[u32; 16], word: u32, output: &mut [u8], at: usize)
+    requires { w.Fits row.now × (e.at 6 row.now ≡ 1) × (e.at 7 row.now ≡ 0) × (e.at 3 row.now ≡ 0) × (4 * (at + 2) ≤ length output.old) }
+    ensures { output.new ≡ put (4 * at) (bytes_of (e.operand_dword row.now ∷ word ∷ [])) output.old }
+{
+    put_dword(output, at, pack(row, 1));
+    put_dword(output, at + 1, word);
 }
 
 // Writes n words; gives the place behind them.
@@ -114,7 +134,7 @@ fn tree(
     requires { (row.now ≡ w.row_from from.operand operands.now) × (e.at 14 row.now ≢ 1) × w.Ready (w.standing (c.confirm left) operands.now words.now from.operand from.word) from.at (length output.old) }
     ensures { w.Emitted (w.standing (c.confirm left) operands.now words.now from.operand from.word) from.operand from.word from.at output.old result output.new }
 {
-    let t = pack(row);
+    let t = pack(row, indices(row));
     let behind = Place {
         operand: from.operand + 16,
         word: from.word,
@@ -126,14 +146,24 @@ fn tree(
 }
 
 // Writes the operand that was confirmed at a place. Most have no operand in them: their words stand one behind the other, behind
-// their dword and its extension.
+// their dword and its extension. Most of these have one index of one
+// dword, and no extension.
 #[cycle(emit_index_tree)]
+#[inline(always)]
 pub fn emit(operands: &[u32], words: &[u32], from: Place, left: usize, output: &mut [u8]) -> Place
     requires { w.Ready (w.standing (c.confirm left) operands.now words.now from.operand from.word) from.at (length output.old) }
     ensures { w.Emitted (w.standing (c.confirm left) operands.now words.now from.operand from.word) from.operand from.word from.at output.old result output.new }
 {
     let Place { operand, word, at } = from;
     let row = row_at(operands, operand);
+    if pair(row[6], row[7]) == 1 && row[3] == 0 {
+        put_with_word(row, words[word], output, at);
+        return Place {
+            operand: operand + 16,
+            word: word + 1,
+            at: at + 2,
+        };
+    }
     if row[14] != 1 {
         return tree(
             row,

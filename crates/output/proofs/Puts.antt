@@ -71,6 +71,14 @@ words_two at ws word n out en h room {out₁} {out₂} e₁ e₂ =
     let one : out₁ ≡ put (4 * at) (bytes_of (take 1 (drop word ws))) out = rw (drop-cons ws word 0 (omega arith)) e₁ in
     rw en (words_more at ws word 1 n out h room (omega arith) one e₂)
 
+pub words_four : (at : ℕ) (ws : List ℕ) (word n : ℕ) (out : List ℕ) → n ≡ 4 → n ≤ length ws - word → 4 * (at + n) ≤ length out → {out₁ out₂ out₃ out₄ : List ℕ} →
+    out₁ ≡ put (4 * at) (bytes_of (get_or ws word 0 ∷ [])) out → out₂ ≡ put (4 * (at + 1)) (bytes_of (get_or ws (word + 1) 0 ∷ [])) out₁ →
+    out₃ ≡ put (4 * (at + 2)) (bytes_of (get_or ws (word + 2) 0 ∷ [])) out₂ → out₄ ≡ put (4 * (at + 3)) (bytes_of (get_or ws (word + 3) 0 ∷ [])) out₃ → out₄ ≡ put (4 * at) (bytes_of (take n (drop word ws))) out
+words_four at ws word n out en h room {out₁} {out₂} {out₃} {out₄} e₁ e₂ e₃ e₄ =
+    let two : out₂ ≡ put (4 * at) (bytes_of (take 2 (drop word ws))) out = words_two at ws word 2 out refl (omega arith) (omega arith) e₁ e₂ in
+    let three : out₃ ≡ put (4 * at) (bytes_of (take 3 (drop word ws))) out = words_more at ws word 2 n out h room (omega arith) two e₃ in
+    rw en (words_more at ws word 3 n out h room (omega arith) three e₄)
+
 -- four stores are a dword
 pub stored : (out : List ℕ) (at x : ℕ) → 4 * (at + 1) ≤ length out →
     set (set (set (set out (4 * at) (x % 256)) (4 * at + 1) (x / 256 % 256)) (4 * at + 2) (x / 65536 % 256)) (4 * at + 3) (x / 16777216 % 256) ≡ put (4 * at) (bytes_of (x ∷ [])) out

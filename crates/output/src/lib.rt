@@ -30,7 +30,18 @@ pub fn put_some(output: &mut [u8], at: usize, x: Option<u32>) -> usize
     at + 1
 }
 
-// Copies n words from a word on, one after the other, up to two of them without a loop: few operands have more.
+// Copies n words from a word on, one after the other. It stands apart, so that `copy` can be inlined.
+#[inline(never)]
+fn copy_each(words: &[u32], word: usize, n: usize, output: &mut [u8], at: usize)
+    requires { (n ≤ length words.now - word) × (4 * (at + n) ≤ length output.old) }
+    ensures { output.new ≡ put (4 * at) (bytes_of (take n (drop word words.now))) output.old }
+{
+    for i in 0..n {
+        put_dword(output, at + i, words[word + i]);
+    }
+}
+
+// Copies n words from a word on, as many as most operands have without a loop.
 pub fn copy(words: &[u32], word: usize, n: usize, output: &mut [u8], at: usize)
     requires { (n ≤ length words.now - word) × (4 * (at + n) ≤ length output.old) }
     ensures { output.new ≡ put (4 * at) (bytes_of (take n (drop word words.now))) output.old }
@@ -42,10 +53,12 @@ pub fn copy(words: &[u32], word: usize, n: usize, output: &mut [u8], at: usize)
             put_dword(output, at, words[word]);
             put_dword(output, at + 1, words[word + 1]);
         }
-        _ => {
-            for i in 0..n {
-                put_dword(output, at + i, words[word + i]);
-            }
+        4 => {
+            put_dword(output, at, words[word]);
+            put_dword(output, at + 1, words[word + 1]);
+            put_dword(output, at + 2, words[word + 2]);
+            put_dword(output, at + 3, words[word + 3]);
         }
+        _ => copy_each(words, word, n, output, at),
     }
 }

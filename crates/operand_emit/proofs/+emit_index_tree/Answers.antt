@@ -1,7 +1,7 @@
-use mathlib.Core.Path.{◌∙◌}
+use mathlib.Core.Path.{refl, sym, ◌∙◌}
 use native.Mathlib.Omega.{arith}
 use Prim.Native.Nat.{◌-◌}
-use Rattle.operand_emit.proofs.Trees.{own_room, child_ready, nested, unnested, depth_left, row_within, row_fits, head_room, head_within, words_room, lone_emitted, first_ready, second_ready, third_ready, deep_emitted}
+use Rattle.operand_emit.proofs.Trees.{own_room, child_ready, nested, unnested, depth_left, row_within, row_fits, head_room, head_within, words_room, lone_emitted, one_none, two_room, word_there, word_emitted, first_ready, second_ready, third_ready, deep_emitted}
 use Rattle.operand_emit.proofs.+emit_index_tree.Goals as goal
 
 pub emit-row_at-row-requires : goal.emit-row_at-row-requires
@@ -10,17 +10,32 @@ emit-row_at-row-requires t c = let a = c.args in row_within a.left a.operands.no
 pub emit-overflow_add-behind : goal.emit-overflow_add-behind
 emit-overflow_add-behind t c = let a = c.args in omega (arith, c.well_formed, row_within a.left a.operands.now a.words.now a.from a.output.now c.requires)
 
+pub emit-offset_bounds-words-word : goal.emit-offset_bounds-words-word
+emit-offset_bounds-words-word t c = let a = c.args in let p = one_none _ _ c.pair.ensures.low (sym c.pair.ensures.value ∙ c.if-pair-eq1.true) in omega (arith, c.well_formed, word_there a.left a.operands.now a.words.now a.from a.output.now c.requires c.row_at-row.ensures p.0 p.1 c.if-row-eq0.true)
+
+pub emit-bounds-words-word : goal.emit-bounds-words-word
+emit-bounds-words-word t c = let a = c.args in let p = one_none _ _ c.pair.ensures.low (sym c.pair.ensures.value ∙ c.if-pair-eq1.true) in word_there a.left a.operands.now a.words.now a.from a.output.now c.requires c.row_at-row.ensures p.0 p.1 c.if-row-eq0.true
+
+pub emit-put_with_word-requires : goal.emit-put_with_word-requires
+emit-put_with_word-requires t c = let a = c.args in let p = one_none _ _ c.pair.ensures.low (sym c.pair.ensures.value ∙ c.if-pair-eq1.true) in (row_fits a.left a.operands.now a.words.now a.from a.output.now c.requires c.row_at-row.ensures, p.0, p.1, c.if-row-eq0.true, two_room a.left a.operands.now a.words.now a.from a.output.now c.requires c.row_at-row.ensures p.0 p.1 c.if-row-eq0.true)
+
+pub emit-overflow_add-result-then-row-eq0 : goal.emit-overflow_add-result-then-row-eq0
+emit-overflow_add-result-then-row-eq0 t c = let a = c.args in let p = one_none _ _ c.pair.ensures.low (sym c.pair.ensures.value ∙ c.if-pair-eq1.true) in omega (arith, c.well_formed, word_there a.left a.operands.now a.words.now a.from a.output.now c.requires c.row_at-row.ensures p.0 p.1 c.if-row-eq0.true)
+
+pub emit-returns-then-row-eq0 : goal.emit-returns-then-row-eq0
+emit-returns-then-row-eq0 t c = let a = c.args in let p = one_none _ _ c.pair.ensures.low (sym c.pair.ensures.value ∙ c.if-pair-eq1.true) in word_emitted a.left a.operands.now a.words.now a.from a.output.now c.requires c.row_at-row.ensures p.0 p.1 c.if-row-eq0.true c.put_with_word.ensures refl
+
 pub emit-head-requires : goal.emit-head-requires
 emit-head-requires t c = let a = c.args in (row_fits a.left a.operands.now a.words.now a.from a.output.now c.requires c.row_at-row.ensures, head_room a.left a.operands.now a.words.now a.from a.output.now c.requires c.row_at-row.ensures)
 
 pub emit-overflow_sub-n : goal.emit-overflow_sub-n
-emit-overflow_sub-n t c = let a = c.args in head_within a.left a.operands.now a.words.now a.from a.output.now c.requires c.row_at-row.ensures c.head.ensures c.if-row-ne1.false
+emit-overflow_sub-n t c = let a = c.args in head_within a.left a.operands.now a.words.now a.from a.output.now c.requires c.row_at-row.ensures c.if-row-ne1.false c.head.ensures
 
 pub emit-write_words-requires : goal.emit-write_words-requires
-emit-write_words-requires t c = let a = c.args in words_room a.left a.operands.now a.words.now a.from a.output.now c.requires c.row_at-row.ensures c.head.ensures c.if-row-ne1.false _ c.head.auto.output
+emit-write_words-requires t c = let a = c.args in words_room a.left a.operands.now a.words.now a.from a.output.now c.requires c.row_at-row.ensures c.if-row-ne1.false c.head.ensures _ c.head.auto.output
 
 pub emit-returns : goal.emit-returns
-emit-returns t c = let a = c.args in lone_emitted a.left a.operands.now a.words.now a.from a.output.now c.requires c.row_at-row.ensures c.head.ensures c.if-row-ne1.false c.write_words.ensures.bytes c.write_words.ensures.place
+emit-returns t c = let a = c.args in lone_emitted a.left a.operands.now a.words.now a.from a.output.now c.requires c.row_at-row.ensures c.if-row-ne1.false c.head.ensures c.write_words.ensures.bytes c.write_words.ensures.place
 
 pub emit-tree-requires : goal.emit-tree-requires
 emit-tree-requires t c = (omega (arith, c.requires), (c.row_at-row.ensures, c.if-row-ne1.true, c.requires))
@@ -31,8 +46,11 @@ tree-overflow_add-behind t c = let a = c.args in omega (arith, c.well_formed, ro
 pub tree-head-requires : goal.tree-head-requires
 tree-head-requires t c = let a = c.args in (row_fits a.left a.operands.now a.words.now a.from a.output.now c.requires.2 c.requires.0, head_room a.left a.operands.now a.words.now a.from a.output.now c.requires.2 c.requires.0)
 
+pub tree-indices-requires : goal.tree-indices-requires
+tree-indices-requires t c = let a = c.args in row_fits a.left a.operands.now a.words.now a.from a.output.now c.requires.2 c.requires.0
+
 pub tree-pack-t-requires : goal.tree-pack-t-requires
-tree-pack-t-requires t c = let a = c.args in row_fits a.left a.operands.now a.words.now a.from a.output.now c.requires.2 c.requires.0
+tree-pack-t-requires t c = let a = c.args in (row_fits a.left a.operands.now a.words.now a.from a.output.now c.requires.2 c.requires.0, c.indices.ensures)
 
 pub tree-index-a-requires : goal.tree-index-a-requires
 tree-index-a-requires t c = let a = c.args in (omega arith, (depth_left a.left a.operands.now a.words.now a.from a.output.now c.requires.2, first_ready a.left a.operands.now a.words.now a.from a.output.now c.requires.2 c.requires.0 c.head.ensures c.requires.1 _ c.pack-t.ensures c.repr.ensures _ c.head.auto.output))
