@@ -256,6 +256,7 @@ impl<'a> Source<'a> {
 
     // Stores the row of an instruction of n operands by its layout. It stays a function of its own, so that nothing is made ready for it where
     // the token is plain.
+    #[cold]
     #[inline(never)]
     fn put_laid(self, n: u32, end: usize, words: usize, instructions: &mut [u32])
         requires { (operand_count (code self.token) ≡ some n) × (16 ≤ length instructions.old) × w.RowReady (w.counted_shape (code self.token) n) (dwords_of self.part.now) end words }
@@ -302,6 +303,7 @@ impl<'a> Source<'a> {
     }
 
     // Writes an instruction that is not read: a row, and all its dwords as words. It stays a function of its own, as few go this way.
+    #[cold]
     #[inline(never)]
     fn write_unread(self, instructions: &mut [u32], words: &mut [u32]) -> Sizes
         requires { w.UnreadRoom (length (dwords_of self.part.now)) (length instructions.old) (length words.old) }

@@ -84,8 +84,10 @@ fn tree(
     sums
 }
 
-// Writes an operand with extensions or representations, whose dword is read.
+// Writes an operand with extensions or representations, whose dword is read. Few are such, which the compiler is told, so that the usual ways
+// keep the registers.
 #[cycle(index_tree_write)]
+#[cold]
 fn extended(
     part: &[u8],
     at: usize,
