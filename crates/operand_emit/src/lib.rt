@@ -146,8 +146,7 @@ fn tree(
 }
 
 // Writes the operand that was confirmed at a place. Most have no operand in them: their words stand one behind the other, behind
-// their dword and its extension. Most of these have one index of one
-// dword, and no extension.
+// their dword and its extension. Most of these have one index of one dword, and no extension.
 #[cycle(emit_index_tree)]
 #[inline(always)]
 pub fn emit(operands: &[u32], words: &[u32], from: Place, left: usize, output: &mut [u8]) -> Place

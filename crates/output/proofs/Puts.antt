@@ -5,7 +5,7 @@ use mathlib.Core.List.{List, [], ◌∷◌, ◌++◌, append_assoc, append-nil}
 use native.Mathlib.Nat.{add-zero}
 use native.Mathlib.Omega.{arith}
 use lib.ListN.{length, take, drop, get_or, set, length-append, length-drop, take-append-drop}
-use lib.Seq.{take_at, drop_at, drop-drop, length-take-le, get_or-drop, drop-cons, sets-eq}
+use lib.Seq.{take_at, drop_at, drop-drop, length-take-le, take-add, get_or-drop, drop-cons, sets-eq}
 use Rattle.std.proofs.lemmas.List.{take_more}
 use Rattle.format.specs.Dwords.{bytes_of}
 use Rattle.format.proofs.Dwords.{length_bytes}
@@ -71,13 +71,18 @@ words_two at ws word n out en h room {out₁} {out₂} e₁ e₂ =
     let one : out₁ ≡ put (4 * at) (bytes_of (take 1 (drop word ws))) out = rw (drop-cons ws word 0 (omega arith)) e₁ in
     rw en (words_more at ws word 1 n out h room (omega arith) one e₂)
 
-pub words_four : (at : ℕ) (ws : List ℕ) (word n : ℕ) (out : List ℕ) → n ≡ 4 → n ≤ length ws - word → 4 * (at + n) ≤ length out → {out₁ out₂ out₃ out₄ : List ℕ} →
+-- two words, and the others behind them
+pub words_behind : (at : ℕ) (ws : List ℕ) (word n : ℕ) (out : List ℕ) → (n ≡ 0 → ⊥) → (n ≡ 1 → ⊥) → n ≤ length ws - word → 4 * (at + n) ≤ length out → {out₁ out₂ out₃ : List ℕ} →
     out₁ ≡ put (4 * at) (bytes_of (get_or ws word 0 ∷ [])) out → out₂ ≡ put (4 * (at + 1)) (bytes_of (get_or ws (word + 1) 0 ∷ [])) out₁ →
-    out₃ ≡ put (4 * (at + 2)) (bytes_of (get_or ws (word + 2) 0 ∷ [])) out₂ → out₄ ≡ put (4 * (at + 3)) (bytes_of (get_or ws (word + 3) 0 ∷ [])) out₃ → out₄ ≡ put (4 * at) (bytes_of (take n (drop word ws))) out
-words_four at ws word n out en h room {out₁} {out₂} {out₃} {out₄} e₁ e₂ e₃ e₄ =
+    out₃ ≡ put (4 * (at + 2)) (bytes_of (take (n - 2) (drop (word + 2) ws))) out₂ → out₃ ≡ put (4 * at) (bytes_of (take n (drop word ws))) out
+words_behind at ws word n out h₀ h₁ h room {out₁} {out₂} {out₃} e₁ e₂ e₃ =
+    let l : 2 ≤ n = omega (arith, h₀, h₁) in
     let two : out₂ ≡ put (4 * at) (bytes_of (take 2 (drop word ws))) out = words_two at ws word 2 out refl (omega arith) (omega arith) e₁ e₂ in
-    let three : out₃ ≡ put (4 * at) (bytes_of (take 3 (drop word ws))) out = words_more at ws word 2 n out h room (omega arith) two e₃ in
-    rw en (words_more at ws word 3 n out h room (omega arith) three e₄)
+    let t : length (take 2 (drop word ws)) ≡ 2 = length-take-le 2 (drop word ws) (omega (arith, length-drop word ws)) in
+    let sum : 2 + (n - 2) ≡ n = omega arith in
+    let z : take 2 (drop word ws) ++ take (n - 2) (drop (word + 2) ws) ≡ take n (drop word ws) =
+    ap (λ (k : List ℕ). take 2 (drop word ws) ++ take (n - 2) k) (sym (drop-drop 2 word ws)) ∙ sym (take-add 2 (n - 2) (drop word ws)) ∙ ap (λ (j : ℕ). take j (drop word ws)) sum in
+    rw z at (dwords_more at (at + 2) (take 2 (drop word ws)) (take (n - 2) (drop (word + 2) ws)) out (omega arith) (omega arith) two e₃)
 
 -- four stores are a dword
 pub stored : (out : List ℕ) (at x : ℕ) → 4 * (at + 1) ≤ length out →

@@ -41,24 +41,33 @@ fn copy_each(words: &[u32], word: usize, n: usize, output: &mut [u8], at: usize)
     }
 }
 
-// Copies n words from a word on, as many as most operands have without a loop.
-pub fn copy(words: &[u32], word: usize, n: usize, output: &mut [u8], at: usize)
+// Copies n words from a word on, none or two of them without a loop.
+fn copy_few(words: &[u32], word: usize, n: usize, output: &mut [u8], at: usize)
     requires { (n ≤ length words.now - word) × (4 * (at + n) ≤ length output.old) }
     ensures { output.new ≡ put (4 * at) (bytes_of (take n (drop word words.now))) output.old }
 {
     match n {
         0 => {}
-        1 => put_dword(output, at, words[word]),
         2 => {
             put_dword(output, at, words[word]);
             put_dword(output, at + 1, words[word + 1]);
         }
-        4 => {
-            put_dword(output, at, words[word]);
-            put_dword(output, at + 1, words[word + 1]);
-            put_dword(output, at + 2, words[word + 2]);
-            put_dword(output, at + 3, words[word + 3]);
-        }
         _ => copy_each(words, word, n, output, at),
     }
+}
+
+// Copies n words from a word on; none, one, two or four of them without a loop: few operands have other numbers of words.
+pub fn copy(words: &[u32], word: usize, n: usize, output: &mut [u8], at: usize)
+    requires { (n ≤ length words.now - word) × (4 * (at + n) ≤ length output.old) }
+    ensures { output.new ≡ put (4 * at) (bytes_of (take n (drop word words.now))) output.old }
+{
+    if n == 0 {
+        return;
+    }
+    put_dword(output, at, words[word]);
+    if n == 1 {
+        return;
+    }
+    put_dword(output, at + 1, words[word + 1]);
+    copy_few(words, word + 2, n - 2, output, at + 2);
 }
