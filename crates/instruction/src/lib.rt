@@ -153,7 +153,9 @@ fn operands_of(part: &[u8], from: usize, count: u32) -> Option<Operands>
         match usual_length(dword(part, end)) {
             Some(k) => end += k,
             None => {
-                let other = unusual(part, end)?;
+                let Some(other) = unusual(part, end) else {
+                    return None;
+                };
                 more += other.rows;
                 skipped += other.skipped;
                 end += other.dwords;
