@@ -274,7 +274,7 @@ pub fn same_part(part: &[u32], words: &[u32], start: usize, n: usize) -> bool {
     }
 }
 
-// How many cases the file says it has; 1 if it doesn't, which is then wrong.
+// How many cases the file says it has. A file that doesn't say it has 1, which cannot be read and counts as wrong.
 pub fn number_of_cases(file: &mut File) -> io::Result<u32> {
     let mut number = [0; 4];
     if read_all(file, &mut number)? {

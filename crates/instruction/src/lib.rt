@@ -135,7 +135,8 @@ fn unusual(part: &[u8], at: usize) -> Option<Surplus>
 }
 
 // Measures so many operands from a place on; none if one is malformed. Most are usual, and are passed by the number of
-// their dwords; the rows and dwords that others have beside are counted apart. It is inlined, as half of the time goes here.
+// their dwords; the rows and dwords that others have beside are counted apart. Each instruction goes through
+// it, so it is inlined.
 #[inline(always)]
 fn operands_of(part: &[u8], from: usize, count: u32) -> Option<Operands>
     requires { from ≤ length (dwords_of part.now) }

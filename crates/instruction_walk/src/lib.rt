@@ -54,7 +54,8 @@ fn ready(instruction: &[u32; 16], place: usize, row: usize, word: usize, words: 
         && plain(instruction)
 }
 
-// Counts the dwords of the chain that words 8 to 11 of a row tell, if one is told so. Most rows tell of none.
+// Counts the dwords of the chain that words 8 to 11 of a row tell; none where they tell no chain that a reader takes. Most
+// rows tell of an empty one.
 #[tactic(auto, using(crate::proofs::Chain::unlinked))]
 #[inline(always)]
 fn linked(instruction: &[u32; 16]) -> Option<usize>
@@ -213,7 +214,7 @@ fn short_declaration(
 }
 
 // Walks the instruction that `walk` walks, of a code with a count or of a declaration, where its row is usual and its operands
-// stand alone, as many as the row tells, or have one operand in an index. None says nothing.
+// stand alone, or have one operand in an index. None says nothing.
 #[tactic(auto, using(crate::proofs::Ceiling::quick_known, crate::proofs::Ceiling::if_known))]
 fn usual(instruction: &[u32; 16], place: usize, rules: Rules, pools: &Pools) -> Option<Walked>
     ensures { IfSome result (λ x. Some x ≡ walked_instruction (c.confirm_instruction rules.ceiling rules.model51 instruction.now place (rows_in pools.now) (words_in pools.now) pools.now.row pools.now.word)) }

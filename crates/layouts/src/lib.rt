@@ -8,7 +8,7 @@ ghost use Rattle.format.specs.Declarations.{field_in, in_bounds};
 ghost use Rattle.layouts.specs.Shapes.{kind_number, counted, field_of, Sound, Laid};
 ghost use Rattle.layouts.specs.Table.{row_of, Declares, shape_of, plain_shape, width_of};
 
-// What a code is. Rows of the reading hold the number of its kind.
+// The kinds of codes. A row holds the number of its code's kind.
 #[derive(Clone, Copy, PartialEq, Eq)]
 pub enum Kind {
     Counted = 1,
@@ -128,8 +128,8 @@ static DECLARATIONS: [u32; 40] = [
 ];
 
 // A code's operand count, by comparisons, if it has one. Even and odd codes stand in arms of their own: neighbours in one arm would be
-// compared as a range, and one range after the other, where single codes become one table. Each instruction is looked up twice: so the
-// look-up is part of its callers.
+// compared as a range, and one range after the other, where single codes become one table. The reader looks up each code
+// twice, so the look-up is inlined into its callers.
 #[inline(always)]
 #[tactic(auto, unfolding(format::specs::Counts::numbers, format::specs::Counts::within, format::specs::Counts::line_of, format::specs::Counts::operand_count))]
 pub fn operand_count(code: u32) -> Option<u32>

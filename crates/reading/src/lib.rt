@@ -61,7 +61,7 @@ fn next(
 }
 
 // Walks over all instructions, whose rows are these; their operands' rows and words are these and no others. The chunk's
-// dwords, or that it is no chunk's.
+// dwords; none if these are no chunk's.
 fn walk_all(instructions: &[u32], operands: &[u32], words: &[u32], rules: Rules) -> Option<usize>
     requires { 16 * (length instructions.now / 16) ≡ length instructions.now }
     ensures { result ≡ w.dwords_from 2 (c.confirm_all rules.ceiling rules.model51 (length instructions.now / 16) 8 instructions.now operands.now words.now 0 0) }
@@ -82,7 +82,7 @@ fn walk_all(instructions: &[u32], operands: &[u32], words: &[u32], rules: Rules)
 }
 
 // Tells whether a version token, so many rows and words, which may be any numbers, are the reading of a chunk at an edition:
-// the chunk's dwords, or that there is no such chunk.
+// the chunk's dwords, and none where there is no such chunk.
 pub fn size(
     edition: u32,
     version: u32,

@@ -227,7 +227,7 @@ static STRAYS: [u32; 16] = [
     0xFFC0_0FFF,
 ];
 
-// Those of a dword.
+// The stray bits of a dword, by its lowest four.
 #[tactic(auto, using(crate::proofs::Usuals::stray_entry))]
 fn stray(t: u32) -> u32
     ensures { result ≡ stray_bits (t % 16) }
