@@ -145,7 +145,7 @@ fn other_fits(there: u32, kind: u32, x: u32) -> bool
 
 // How many dwords the chain has that words 8 to 11 of a row tell, after a token that says whether there is one.
 #[tactic(auto, using(crate::proofs::Chains::other_bit, crate::proofs::Chains::too_many, crate::proofs::Chains::not_first, crate::proofs::Chains::not_second, crate::proofs::Chains::not_third, crate::proofs::Chains::all_fit))]
-#[inline(never)]
+#[cold]
 pub fn chained(there: bool, n: u32, u: u32, a: u32, b: u32) -> Option<usize>
     ensures { Counts (Chained there n u a b) (length (e.chain_of n u a b)) result }
 {

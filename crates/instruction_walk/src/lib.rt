@@ -235,7 +235,7 @@ fn usual(instruction: &[u32; 16], place: usize, rules: Rules, pools: &Pools) -> 
 
 // Walks it the general way. It is kept out of the loops of callers, most of whose rows do not come here.
 #[tactic(auto, using(crate::proofs::Ceiling::by_unread, crate::proofs::Ceiling::by_known))]
-#[inline(never)]
+#[cold]
 fn general(instruction: &[u32; 16], place: usize, rules: Rules, pools: &Pools) -> Option<Walked>
     ensures { result ≡ walked_instruction (c.confirm_instruction rules.ceiling rules.model51 instruction.now place (rows_in pools.now) (words_in pools.now) pools.now.row pools.now.word) }
 {

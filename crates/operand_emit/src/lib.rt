@@ -122,7 +122,7 @@ fn index(
 // Writes an operand with an operand in it: its dword and extension, and behind them its indices. It stands apart, so that `emit`
 // can be inlined: few operands come here.
 #[cycle(emit_index_tree)]
-#[inline(never)]
+#[cold]
 fn tree(
     row: &[u32; 16],
     operands: &[u32],
