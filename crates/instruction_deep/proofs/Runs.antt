@@ -15,8 +15,8 @@ use Rattle.format.specs.Declarations.{Item, o, d}
 use Rattle.format.specs.Rows.{operand_row, top_level}
 use Rattle.format.specs.Encoder.{at, extension_of, operand_dword, same}
 use Rattle.format.proofs.Dwords.{impossible}
-use Rattle.layouts.specs.Shapes.{Sound, items_of}
-use Rattle.instruction_fields.specs.Places.{dwords_on, rest_on}
+use Rattle.layouts.specs.Shapes.{items_of}
+use Rattle.instruction_fields.specs.Places.{dwords_on}
 use Rattle.layouts.specs.declared.Shape.{Shape}
 use Rattle.instruction_fields.specs.Fields.{rest}
 use Rattle.operand_deep.specs.Confirm.{Confirmer, ◌>>=◌, behind, confirm_index, confirm, confirm_front, confirm_immediates, confirm_indices, confirmed}
@@ -29,7 +29,7 @@ use Rattle.instruction_deep.specs.Confirm.{confirm_item}
 use Rattle.instruction_deep.specs.Walks.{some_parts, add, sum_at, Takes, takes, lacks, PassesIn, Runs}
 use Rattle.instruction_deep.specs.declared.Parts.{Parts}
 use Rattle.instruction_deep.proofs.Items.{item_step, item_off, Bounds, bounds, all_few, takes_none, takes_first, takes_off, takes_then}
-use Rattle.instruction_deep.proofs.Passing.{words_on_lem, rest_passes}
+use Rattle.instruction_deep.proofs.Passing.{words_on_lem}
 
 -- ---- an operand is one part
 abbrev One : Tree → Type 0
@@ -154,10 +154,7 @@ module _ (m : Bool) (x : Shape) (rs ws : List ℕ) (r w : ℕ) (h : w ≤ length
         pub second_bounds : Bounds rs ws r a b
         second_bounds = bounds at_second
 
-        module _ (z : Sound x) (u : Option ℕ) (eu : u ≡ rest_on m x ws b.word) where
-          last : PassesIn m (rest x) ws b.word u
-          last = rw eu (rest_passes m x ws b.word second_bounds.words_to z)
-
+        module _ (u : Option ℕ) (last : PassesIn m (rest x) ws b.word u) where
           pub rest_off : u ≡ None → Takes m (items_of x) x.operands rs ws r w None
           unfolding items_of rest
           rest_off z = takes_off {b = replicate x.operands o ++ rest x} at_first (takes_off {b = rest x} at_second (subst (PassesIn m (rest x) ws b.word) z last rs b.row) x.operands) x.operands

@@ -7,14 +7,14 @@ ghost use Rattle.format.specs.Counts as ct;
 ghost use Rattle.format.specs.Declarations as dc;
 ghost use Rattle.format.specs.Encoder as e;
 ghost use Rattle.layouts.specs.Shapes.{Sound, Laid, kind_number, items_of};
-ghost use Rattle.instruction_fields.specs.Fields.{fields_in};
+ghost use Rattle.instruction_fields.specs.Fields.{rest, fields_in};
 ghost use Rattle.instruction_deep.specs.Confirm as c;
-ghost use Rattle.instruction_deep.specs.Walks.{rows_in, words_in, walked_instruction, Takes, Runs, Counts, Unchained, Chained, Headed, Fielded, Sized, Pieces, Placed, Bare};
+ghost use Rattle.instruction_deep.specs.Walks.{rows_in, words_in, walked_instruction, Takes, PassesIn, Runs, Counts, Unchained, Chained, Headed, Fielded, Sized, Pieces, Placed, Bare};
 
 mod standing;
 
 use framing::{long, sized};
-use instruction_fields::{Fields, exact_class, exact_token, fields_of, past_dwords, past_rest};
+use instruction_fields::{Fields, exact_class, exact_token, fields_of, past_dwords};
 use layouts::{Kind, Shape, counted_layout, in_bounds, operand_count, uncounted_layout};
 pub use standing::Pools;
 
@@ -49,6 +49,15 @@ pub fn operands_of(pools: &Pools, count: u32) -> Option<Parts>
         past.dwords += walked.dwords;
     }
     Some(past)
+}
+
+// Past the items behind the operands.
+#[tactic(auto, using(crate::proofs::Passing::rest_passes))]
+pub fn past_rest(words: &[u32], at: usize, s: Shape, model51: bool) -> Option<usize>
+    requires { (at ≤ length words.now) × Sound s }
+    ensures { PassesIn model51 (rest s) words.now at result }
+{
+    instruction_fields::past_rest(words, at, s, model51)
 }
 
 // Walks the items of a shape.

@@ -46,7 +46,7 @@ fn past_small<D: DwordList>(part: D, at: usize, small: u32) -> Option<usize>
 }
 
 // How many more dwords a list's first dword says, in its low 16 bits or in all.
-fn list_length(x: u32, bits: u32) -> u32
+pub fn list_length(x: u32, bits: u32) -> u32
     requires { Bits bits }
     ensures { result ≡ x % 2 ^ bits }
 {

@@ -16,15 +16,15 @@ use Rattle.format.specs.Instructions.{fields_of}
 use Rattle.format.specs.Encoder.{at, sized_row, token_of_row, head_of_row}
 use Rattle.format.proofs.Dwords.{impossible}
 use Rattle.format.proofs.Each.{member}
-use Rattle.layouts.specs.Shapes.{Sound, kind_number, meant, field_of, items_of}
+use Rattle.layouts.specs.Shapes.{kind_number, meant, field_of, items_of}
 use Rattle.layouts.specs.declared.Shape.{Shape}
 use Rattle.operand_walk.specs.declared.Ran.{Ran}
 use Rattle.operand_walk.specs.Walks.{Run, empty, next, IsRun}
-use Rattle.instruction_fields.specs.Fields.{Declared}
-use Rattle.instruction_fields.specs.Places.{dwords_on, rest_on}
+use Rattle.instruction_fields.specs.Fields.{Declared, rest}
+use Rattle.instruction_fields.specs.Places.{dwords_on}
 use Rattle.std.specs.Prelude.{Option, Some}
 use Rattle.instruction_deep.specs.Confirm.{confirm_known}
-use Rattle.instruction_deep.specs.Walks.{some_walked, some_parts, walked_instruction, Takes, Runs, Headed, Fielded, Pieces, Placed}
+use Rattle.instruction_deep.specs.Walks.{some_walked, some_parts, walked_instruction, Takes, Runs, PassesIn, Headed, Fielded, Pieces, Placed}
 use Rattle.instruction_walk.specs.Short.{short_token, OnlyField, Lone}
 use Rattle.instruction_deep.proofs.Deciding.{holds}
 use Rattle.instruction_deep.proofs.Items.{bounds}
@@ -209,19 +209,19 @@ module _ (m : Bool) (x : Shape) (rs ws : List ℕ) (r w : ℕ) (hw : w ≤ lengt
   pub behind_lone : (a ≤ b) × (b ≤ length ws)
   behind_lone = let s = bounds (run m) in (s.words_from, s.words_to)
 
-  module _ (z : Sound x) (v : Option ℕ) (ev : v ≡ rest_on m x ws b) (end : ℕ) (ee : v ≡ Some end) where
+  module _ (v : Option ℕ) (last : PassesIn m (rest x) ws b v) (end : ℕ) (ee : v ≡ Some end) where
     pub ends : (w ≤ end) × (end ≤ length ws)
     ends =
         let f = first_bounds m x rs ws r w hw p ep a ea in
-        let t = third_bounds m x rs ws r w hw p ep a ea run _ refl z v ev end ee in
+        let t = third_bounds m x rs ws r w hw p ep a ea run _ refl v last end ee in
         (omega (arith, f, behind_lone, t), t.1)
 
     declared_parts : Takes m (items_of x) x.operands rs ws r w (some_parts (r + x.operands) end (x.operands + (end - w)))
     declared_parts =
         let f = first_bounds m x rs ws r w hw p ep a ea in
-        let t = third_bounds m x rs ws r w hw p ep a ea run _ refl z v ev end ee in
+        let t = third_bounds m x rs ws r w hw p ep a ea run _ refl v last end ee in
         let y : a - w + (x.operands + (b - a)) + (end - b) ≡ x.operands + (end - w) = omega (arith, f, behind_lone, t) in
-        rw y at (all_parts_lem m x rs ws r w hw p ep a ea run _ refl z v ev end ee)
+        rw y at (all_parts_lem m x rs ws r w hw p ep a ea run _ refl v last end ee)
 
     pub declared_walks : (q : List ℕ) (place : ℕ) → length q ≡ 16 → Declared (at 2 q) x → OnlyField q x → {kind : ℕ} → kind ≡ kind_number x.kind → Placed q place kind r x.operands w (end - w) → at 1 q ≡ 1 + x.operands + (end - w) →
         some_walked x.operands (1 + x.operands + (end - w)) ≡ walked_instruction (confirm_known m q place (drop (16 * r) rs) (drop w ws) r w)

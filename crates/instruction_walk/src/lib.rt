@@ -12,8 +12,8 @@ ghost use Rattle.instruction_walk.specs.Short.{Counted, Bits, Plain, Ready, Link
 mod edition;
 
 pub use edition::Rules;
-use instruction_deep::{Pools, Walked, chained, known, operands_of, placed, unread};
-use instruction_fields::{past_dwords, past_rest, tests};
+use instruction_deep::{Pools, Walked, chained, known, operands_of, past_rest, placed, unread};
+use instruction_fields::{past_dwords, tests};
 use layouts::{Shape, declaration, declared, operand_count};
 use operand_deep::pair;
 
@@ -216,7 +216,7 @@ fn short_declaration(
 // Walks the instruction that `walk` walks, of a code with a count or of a declaration, where its row is usual and its operands
 // stand alone, or have one operand in an index. None says nothing.
 #[tactic(auto, using(crate::proofs::Ceiling::quick_known, crate::proofs::Ceiling::if_known))]
-fn usual(instruction: &[u32; 16], place: usize, rules: Rules, pools: &Pools) -> Option<Walked>
+pub fn usual(instruction: &[u32; 16], place: usize, rules: Rules, pools: &Pools) -> Option<Walked>
     ensures { IfSome result (λ x. Some x ≡ walked_instruction (c.confirm_instruction rules.ceiling rules.model51 instruction.now place (rows_in pools.now) (words_in pools.now) pools.now.row pools.now.word)) }
 {
     let code = instruction[2];

@@ -15,16 +15,16 @@ pub past_rest-requires : goal.past_rest-requires
 past_rest-requires c = ((second_bounds c.args.model51 c.args.s c.args.pools.now.operands.now c.args.pools.now.words.now c.args.pools.now.row c.args.pools.now.word c.args.pools.now.within _ c.past_dwords.ensures.place _ c.in_ok-a.was c.operands_of.ensures _ c.in_ok-past.was).words_to, c.requires)
 
 pub returns-in_err-end : goal.returns-in_err-end
-returns-in_err-end c = subst (Takes c.args.model51 (items_of c.args.s) c.args.s.operands c.args.pools.now.operands.now c.args.pools.now.words.now c.args.pools.now.row c.args.pools.now.word) (sym c.from_residual-in_err-end.ensures) (rest_off c.args.model51 c.args.s c.args.pools.now.operands.now c.args.pools.now.words.now c.args.pools.now.row c.args.pools.now.word c.args.pools.now.within _ c.past_dwords.ensures.place _ c.in_ok-a.was c.operands_of.ensures _ c.in_ok-past.was c.requires _ c.past_rest.ensures c.in_err-end.was)
+returns-in_err-end c = subst (Takes c.args.model51 (items_of c.args.s) c.args.s.operands c.args.pools.now.operands.now c.args.pools.now.words.now c.args.pools.now.row c.args.pools.now.word) (sym c.from_residual-in_err-end.ensures) (rest_off c.args.model51 c.args.s c.args.pools.now.operands.now c.args.pools.now.words.now c.args.pools.now.row c.args.pools.now.word c.args.pools.now.within _ c.past_dwords.ensures.place _ c.in_ok-a.was c.operands_of.ensures _ c.in_ok-past.was _ c.past_rest.ensures c.in_err-end.was)
 
 pub overflow_add-result : goal.overflow_add-result
 overflow_add-result c = omega (arith, c.well_formed, first_bounds c.args.model51 c.args.s c.args.pools.now.operands.now c.args.pools.now.words.now c.args.pools.now.row c.args.pools.now.word c.args.pools.now.within _ c.past_dwords.ensures.place _ c.in_ok-a.was, second_bounds c.args.model51 c.args.s c.args.pools.now.operands.now c.args.pools.now.words.now c.args.pools.now.row c.args.pools.now.word c.args.pools.now.within _ c.past_dwords.ensures.place _ c.in_ok-a.was c.operands_of.ensures _ c.in_ok-past.was)
 
 pub overflow_sub-result-2 : goal.overflow_sub-result-2
-overflow_sub-result-2 c = omega (arith, third_bounds c.args.model51 c.args.s c.args.pools.now.operands.now c.args.pools.now.words.now c.args.pools.now.row c.args.pools.now.word c.args.pools.now.within _ c.past_dwords.ensures.place _ c.in_ok-a.was c.operands_of.ensures _ c.in_ok-past.was c.requires _ c.past_rest.ensures _ c.in_ok-end.was)
+overflow_sub-result-2 c = omega (arith, third_bounds c.args.model51 c.args.s c.args.pools.now.operands.now c.args.pools.now.words.now c.args.pools.now.row c.args.pools.now.word c.args.pools.now.within _ c.past_dwords.ensures.place _ c.in_ok-a.was c.operands_of.ensures _ c.in_ok-past.was _ c.past_rest.ensures _ c.in_ok-end.was)
 
 pub overflow_add-result-2 : goal.overflow_add-result-2
-overflow_add-result-2 c = omega (arith, c.well_formed, parts_few c.args.model51 c.args.s c.args.pools.now.operands.now c.args.pools.now.words.now c.args.pools.now.row c.args.pools.now.word c.args.pools.now.within _ c.past_dwords.ensures.place _ c.in_ok-a.was c.operands_of.ensures _ c.in_ok-past.was c.requires _ c.past_rest.ensures _ c.in_ok-end.was)
+overflow_add-result-2 c = omega (arith, c.well_formed, parts_few c.args.model51 c.args.s c.args.pools.now.operands.now c.args.pools.now.words.now c.args.pools.now.row c.args.pools.now.word c.args.pools.now.within _ c.past_dwords.ensures.place _ c.in_ok-a.was c.operands_of.ensures _ c.in_ok-past.was _ c.past_rest.ensures _ c.in_ok-end.was)
 
 pub returns : goal.returns
-returns c = all_parts_lem c.args.model51 c.args.s c.args.pools.now.operands.now c.args.pools.now.words.now c.args.pools.now.row c.args.pools.now.word c.args.pools.now.within _ c.past_dwords.ensures.place _ c.in_ok-a.was c.operands_of.ensures _ c.in_ok-past.was c.requires _ c.past_rest.ensures _ c.in_ok-end.was
+returns c = all_parts_lem c.args.model51 c.args.s c.args.pools.now.operands.now c.args.pools.now.words.now c.args.pools.now.row c.args.pools.now.word c.args.pools.now.within _ c.past_dwords.ensures.place _ c.in_ok-a.was c.operands_of.ensures _ c.in_ok-past.was _ c.past_rest.ensures _ c.in_ok-end.was
