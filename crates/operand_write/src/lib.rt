@@ -10,7 +10,7 @@ ghost use Rattle.operand_write.specs.Writes as w;
 use operand_rows::{Front, Sums, make_row, own_words, put_row, single};
 
 // Writes an index of a representation behind what is counted.
-#[cycle(index_tree_write)]
+#[cycle(extended_index_tree)]
 fn index(
     part: &[u8],
     at: usize,
@@ -29,9 +29,11 @@ fn index(
     if !tokens::nests(r) {
         return next;
     }
-    let x = write(
+    let from = at + next.dwords;
+    let x = extended(
         part,
-        at + next.dwords,
+        from,
+        tokens::dword(part, from),
         left - 1,
         &mut ops[next.rows * 16..],
         &mut words[next.words..],
@@ -46,7 +48,7 @@ fn index(
 }
 
 // Writes an operand by its indices, one after the other; its front is read.
-#[cycle(index_tree_write)]
+#[cycle(extended_index_tree)]
 fn tree(
     front: &Front,
     left: usize,
@@ -85,8 +87,8 @@ fn tree(
 }
 
 // Writes an operand with extensions or representations, whose dword is read. Few are such, which the compiler is told, so that the usual ways
-// keep the registers.
-#[cycle(index_tree_write)]
+// keep the registers. An operand in an index goes this way whatever it has, so that `index` is short and is inlined into `tree`.
+#[cycle(extended_index_tree)]
 #[cold]
 fn extended(
     part: &[u8],
@@ -120,7 +122,6 @@ fn extended(
 
 // Writes an operand that was measured, at a place, with so many depths left. Most have neither extensions nor representations, and of these
 // most are exact and have one index: they go a short way.
-#[cycle(index_tree_write)]
 #[inline(always)]
 pub fn write(
     part: &[u8],

@@ -3,15 +3,11 @@ use native.Mathlib.Omega.{arith}
 use lib.Seq.{slice, length-slice}
 use Rattle.format.specs.Dwords.{dwords_of}
 use Rattle.format.proofs.Dwords.{length_dwords}
-use Rattle.operand.proofs.Fronts.{low_flat}
-use Rattle.operand_write.proofs.Readings.{inside, low_entered, chained, to, entered}
-use Rattle.operand_write.proofs.Writing.{short_room, short_wrote, leaf_room, leaf_wrote, flat_room, flat_wrote, tree_room, tree_wrote, counted, own_room, child_room, child_put, flat_put, nested_put, numbers, ready₀, ready₁, ready₂, node_sum, node_fits, node_put}
+use Rattle.operand_write.proofs.Readings.{inside, chained, to, entered}
+use Rattle.operand_write.proofs.Writing.{leaf_room, leaf_wrote, flat_room, flat_wrote, tree_room, tree_wrote, counted, own_room, child_room, child_put, flat_put, nested_put, numbers, ready₀, ready₁, ready₂, node_sum, node_fits, node_put}
 use Prim.Native.Nat.{◌+◌, ◌-◌}
 use Rattle.std.proofs.Common.{ap, not}
-use Rattle.operand_write.proofs.+index_tree_write.Goals as goal
-
-pub write-dword-token-requires : goal.write-dword-token-requires
-write-dword-token-requires t c = let a = c.args in inside a.left (dwords_of a.part.now) a.at c.requires.is
+use Rattle.operand_write.proofs.+extended_index_tree.Goals as goal
 
 pub extended-overflow_add-at : goal.extended-overflow_add-at
 extended-overflow_add-at t c = let a = c.args in omega (arith, inside a.left (dwords_of a.part.now) a.at c.requires.1.is, length_dwords a.part.now)
@@ -46,35 +42,38 @@ index-own_words-next-requires t c = let a = c.args in own_room (a.left - 1) (dwo
 pub index-returns-then-not-nests : goal.index-returns-then-not-nests
 index-returns-then-not-nests t c = let a = c.args in flat_put (a.left - 1) (dwords_of a.part.now) a.r a.at _ _ c.requires.1 c.nests.ensures c.own_words-next.ensures (ap not c.if-not-nests.true)
 
-pub index-overflow_add-at : goal.index-overflow_add-at
-index-overflow_add-at t c = let a = c.args in omega (arith, counted (a.left - 1) (dwords_of a.part.now) a.r a.at _ _ c.requires.1, c.own_words-next.ensures, length_dwords a.part.now)
+pub index-overflow_add-from : goal.index-overflow_add-from
+index-overflow_add-from t c = let a = c.args in omega (arith, counted (a.left - 1) (dwords_of a.part.now) a.r a.at _ _ c.requires.1, c.own_words-next.ensures, length_dwords a.part.now)
+
+pub index-dword-requires : goal.index-dword-requires
+index-dword-requires t c = let a = c.args in inside (a.left - 1) (dwords_of a.part.now) _ (child_room (a.left - 1) (dwords_of a.part.now) a.r a.at _ _ c.requires.1 c.nests.ensures c.own_words-next.ensures (ap not c.if-not-nests.false) c.own_words-next.auto.words).is
 
 pub index-offset_bounds-words-next : goal.index-offset_bounds-words-next
 index-offset_bounds-words-next t c = let a = c.args in omega (arith, counted (a.left - 1) (dwords_of a.part.now) a.r a.at _ _ c.requires.1, c.own_words-next.ensures, length_dwords a.part.now)
 
-pub index-slice_bounds-write-count-2 : goal.index-slice_bounds-write-count-2
-index-slice_bounds-write-count-2 t c = let a = c.args in omega (arith, counted (a.left - 1) (dwords_of a.part.now) a.r a.at _ _ c.requires.1, c.own_words-next.ensures, length_dwords a.part.now, c.own_words-next.auto.words)
+pub index-slice_bounds-extended-count-2 : goal.index-slice_bounds-extended-count-2
+index-slice_bounds-extended-count-2 t c = let a = c.args in omega (arith, counted (a.left - 1) (dwords_of a.part.now) a.r a.at _ _ c.requires.1, c.own_words-next.ensures, length_dwords a.part.now, c.own_words-next.auto.words)
 
-pub index-slice_bounds-write-start-2 : goal.index-slice_bounds-write-start-2
-index-slice_bounds-write-start-2 t c = let a = c.args in omega (arith, counted (a.left - 1) (dwords_of a.part.now) a.r a.at _ _ c.requires.1, c.own_words-next.ensures, length_dwords a.part.now, c.own_words-next.auto.words)
+pub index-slice_bounds-extended-start-2 : goal.index-slice_bounds-extended-start-2
+index-slice_bounds-extended-start-2 t c = let a = c.args in omega (arith, counted (a.left - 1) (dwords_of a.part.now) a.r a.at _ _ c.requires.1, c.own_words-next.ensures, length_dwords a.part.now, c.own_words-next.auto.words)
 
 pub index-overflow_add-word : goal.index-overflow_add-word
 index-overflow_add-word t c = let a = c.args in omega (arith, counted (a.left - 1) (dwords_of a.part.now) a.r a.at _ _ c.requires.1, c.own_words-next.ensures, length_dwords a.part.now)
 
-pub index-write-x-requires : goal.index-write-x-requires
-index-write-x-requires t c = let a = c.args in (omega (arith, c.requires), child_room (a.left - 1) (dwords_of a.part.now) a.r a.at _ _ c.requires.1 c.nests.ensures c.own_words-next.ensures (ap not c.if-not-nests.false) c.own_words-next.auto.words)
+pub index-extended-x-requires : goal.index-extended-x-requires
+index-extended-x-requires t c = let a = c.args in (omega (arith, c.requires), (c.dword.ensures, child_room (a.left - 1) (dwords_of a.part.now) a.r a.at _ _ c.requires.1 c.nests.ensures c.own_words-next.ensures (ap not c.if-not-nests.false) c.own_words-next.auto.words))
 
 pub index-overflow_add-result : goal.index-overflow_add-result
-index-overflow_add-result t c = let a = c.args in omega (arith, counted (a.left - 1) (dwords_of a.part.now) a.r a.at _ _ c.requires.1, c.own_words-next.ensures, length_dwords a.part.now, child_put (a.left - 1) (dwords_of a.part.now) a.r a.at _ _ c.requires.1 c.nests.ensures c.own_words-next.ensures (ap not c.if-not-nests.false) c.write-x.ensures)
+index-overflow_add-result t c = let a = c.args in omega (arith, counted (a.left - 1) (dwords_of a.part.now) a.r a.at _ _ c.requires.1, c.own_words-next.ensures, length_dwords a.part.now, child_put (a.left - 1) (dwords_of a.part.now) a.r a.at _ _ c.requires.1 c.nests.ensures c.own_words-next.ensures (ap not c.if-not-nests.false) c.extended-x.ensures)
 
 pub index-overflow_add-result-2 : goal.index-overflow_add-result-2
-index-overflow_add-result-2 t c = let a = c.args in omega (arith, counted (a.left - 1) (dwords_of a.part.now) a.r a.at _ _ c.requires.1, c.own_words-next.ensures, length_dwords a.part.now, child_put (a.left - 1) (dwords_of a.part.now) a.r a.at _ _ c.requires.1 c.nests.ensures c.own_words-next.ensures (ap not c.if-not-nests.false) c.write-x.ensures)
+index-overflow_add-result-2 t c = let a = c.args in omega (arith, counted (a.left - 1) (dwords_of a.part.now) a.r a.at _ _ c.requires.1, c.own_words-next.ensures, length_dwords a.part.now, child_put (a.left - 1) (dwords_of a.part.now) a.r a.at _ _ c.requires.1 c.nests.ensures c.own_words-next.ensures (ap not c.if-not-nests.false) c.extended-x.ensures)
 
 pub index-overflow_add-result-3 : goal.index-overflow_add-result-3
-index-overflow_add-result-3 t c = let a = c.args in omega (arith, counted (a.left - 1) (dwords_of a.part.now) a.r a.at _ _ c.requires.1, c.own_words-next.ensures, length_dwords a.part.now, child_put (a.left - 1) (dwords_of a.part.now) a.r a.at _ _ c.requires.1 c.nests.ensures c.own_words-next.ensures (ap not c.if-not-nests.false) c.write-x.ensures)
+index-overflow_add-result-3 t c = let a = c.args in omega (arith, counted (a.left - 1) (dwords_of a.part.now) a.r a.at _ _ c.requires.1, c.own_words-next.ensures, length_dwords a.part.now, child_put (a.left - 1) (dwords_of a.part.now) a.r a.at _ _ c.requires.1 c.nests.ensures c.own_words-next.ensures (ap not c.if-not-nests.false) c.extended-x.ensures)
 
 pub index-returns : goal.index-returns
-index-returns t c = let a = c.args in nested_put (a.left - 1) (dwords_of a.part.now) a.r a.at _ _ c.requires.1 c.nests.ensures c.own_words-next.ensures (ap not c.if-not-nests.false) c.write-x.ensures
+index-returns t c = let a = c.args in nested_put (a.left - 1) (dwords_of a.part.now) a.r a.at _ _ c.requires.1 c.nests.ensures c.own_words-next.ensures (ap not c.if-not-nests.false) c.extended-x.ensures
 
 pub tree-index-a-requires : goal.tree-index-a-requires
 tree-index-a-requires t c = let f = c.args.front.now in (omega (arith, c.requires), (c.requires.0, ready₀ (c.args.left - 1) (dwords_of f.part.now) f.token (slice (f.at + 1) f.body (dwords_of f.part.now)) f.body _ _ c.requires.2 c.requires.1.within c.repr-r0.ensures))
@@ -96,24 +95,3 @@ tree-put_row-requires t c = let f = c.args.front.now in omega (arith, (numbers (
 
 pub tree-returns : goal.tree-returns
 tree-returns t c = let f = c.args.front.now in node_put (c.args.left - 1) (dwords_of f.part.now) f.token (slice (f.at + 1) f.body (dwords_of f.part.now)) f.body _ _ c.requires.2 c.requires.1.within c.repr-r0.ensures c.index-a.ensures c.repr-r1.ensures c.index-b.ensures c.repr-r2.ensures c.index-c.ensures f.at c.requires.1.from (length-slice (f.at + 1) f.body (dwords_of f.part.now) c.requires.1.within) c.requires.1.modified (c.numbers.ensures ∙ c.make_row-made.ensures) c.put_row.ensures
-
-pub write-single-requires : goal.write-single-requires
-write-single-requires t c = let a = c.args in short_room a.left (dwords_of a.part.now) a.at c.requires _ c.dword-token.ensures c.short.ensures c.if-short.true
-
-pub write-returns-then-short : goal.write-returns-then-short
-write-returns-then-short t c = let a = c.args in short_wrote a.left (dwords_of a.part.now) a.at c.requires _ c.dword-token.ensures c.short.ensures c.if-short.true c.single.ensures
-
-pub write-overflow_add-front : goal.write-overflow_add-front
-write-overflow_add-front t c = let a = c.args in omega (arith, inside a.left (dwords_of a.part.now) a.at c.requires.is, length_dwords a.part.now)
-
-pub write-leaf-requires : goal.write-leaf-requires
-write-leaf-requires t c = let a = c.args in let o = low_entered a.left (dwords_of a.part.now) a.at c.requires.is _ c.dword-token.ensures c.if-token-ge4194304.false in leaf_room o c.requires _ c.immediate.ensures c.if-immediate.true
-
-pub write-returns-then-immediate : goal.write-returns-then-immediate
-write-returns-then-immediate t c = let a = c.args in let o = low_entered a.left (dwords_of a.part.now) a.at c.requires.is _ c.dword-token.ensures c.if-token-ge4194304.false in leaf_wrote o c.requires _ c.immediate.ensures c.if-immediate.true c.leaf.ensures
-
-pub write-flat-requires : goal.write-flat-requires
-write-flat-requires t c = let a = c.args in let o = low_entered a.left (dwords_of a.part.now) a.at c.requires.is _ c.dword-token.ensures c.if-token-ge4194304.false in flat_room o c.requires _ c.immediate.ensures c.if-immediate.false (low_flat _ c.if-token-ge4194304.false)
-
-pub write-returns : goal.write-returns
-write-returns t c = let a = c.args in let o = low_entered a.left (dwords_of a.part.now) a.at c.requires.is _ c.dword-token.ensures c.if-token-ge4194304.false in flat_wrote o c.requires _ c.immediate.ensures c.if-immediate.false (low_flat _ c.if-token-ge4194304.false) c.flat.ensures

@@ -1,5 +1,5 @@
 use Prim.Native.Nat.{◌+◌, ◌*◌}
-use Rattle.operand_write.proofs.+index_tree_write.Given as goal
+use Rattle.operand_write.proofs.+extended_index_tree.Given as goal
 
 abbrev pub decreases-extended : goal.decreases-extended
 decreases-extended l = l.left * 4 + 2
@@ -9,6 +9,3 @@ decreases-index l = l.left * 4
 
 abbrev pub decreases-tree : goal.decreases-tree
 decreases-tree l = l.left * 4 + 1
-
-abbrev pub decreases-write : goal.decreases-write
-decreases-write l = l.left * 4 + 3
