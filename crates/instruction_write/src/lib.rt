@@ -15,7 +15,9 @@ ghost use Rattle.instruction_write.specs.Writes as w;
 
 use framing::long;
 use instruction_fields::{fields_of, head, plain};
-use layouts::{Kind, Shape, counted_layout, field_of, operand_count, uncounted_layout};
+use layouts::{
+    Kind, Shape, counted_layout, declaration, declared, field_of, operand_count, uncounted_layout,
+};
 use operand_rows::{Sums, copy, put_row};
 use tokens::{chain, dword, dwords, follows};
 
@@ -165,6 +167,7 @@ fn write_operands(
 }
 
 // Writes the parts of an instruction, from a place on to its end: dwords, operands, and all dwords behind them.
+#[inline(always)]
 fn write_parts(
     part: &[u8],
     at: usize,
@@ -364,20 +367,19 @@ impl<'a> Source<'a> {
         x
     }
 
-    // Writes an instruction whose code has no count, by its layout. It stays a function of its own, so that its layout takes no registers of the
-    // counted way.
-    #[inline(never)]
-    fn write_uncounted(
+    // Writes an instruction whose code has no count, by its layout.
+    #[inline(always)]
+    fn write_laid(
         self,
+        s: Shape,
         model51: bool,
         instructions: &mut [u32],
         operands: &mut [u32],
         words: &mut [u32],
     ) -> Sizes
-        requires { (self.token ≡ get_or (dwords_of self.part.now) 0 0) × (operand_count (code self.token) ≡ none) × w.Ready (ins.judged (layout (code self.token)) (ins.split model51 (layout (code self.token)) (dwords_of self.part.now))) (dwords_of self.part.now) (length instructions.old) (length operands.old) (length words.old) self.place.offset self.place.row self.place.word }
+        requires { (self.token ≡ get_or (dwords_of self.part.now) 0 0) × Laid (code self.token) s × w.Ready (ins.judged (layout (code self.token)) (ins.split model51 (layout (code self.token)) (dwords_of self.part.now))) (dwords_of self.part.now) (length instructions.old) (length operands.old) (length words.old) self.place.offset self.place.row self.place.word }
         ensures { w.Written (ins.judged (layout (code self.entry.token)) (ins.split model51 (layout (code self.entry.token)) (dwords_of self.entry.part.now))) self.entry.place.offset self.entry.place.row self.entry.place.word instructions.old operands.old words.old result instructions.new operands.new words.new }
     {
-        let s = uncounted_layout(self.token % 2048);
         let end = head(self.part, s, self.token).unwrap();
         let Place { row, word, .. } = self.place;
         let x = write_parts(
@@ -392,6 +394,44 @@ impl<'a> Source<'a> {
         );
         put_row(instructions, self.uncounted_row(s, end, x.words).numbers());
         x
+    }
+
+    // Writes an instruction without a count that is no declaration, or one in the long form. It stays a function of its own, as few go this way.
+    #[cold]
+    #[inline(never)]
+    fn write_other(
+        self,
+        model51: bool,
+        instructions: &mut [u32],
+        operands: &mut [u32],
+        words: &mut [u32],
+    ) -> Sizes
+        requires { (self.token ≡ get_or (dwords_of self.part.now) 0 0) × (operand_count (code self.token) ≡ none) × w.Ready (ins.judged (layout (code self.token)) (ins.split model51 (layout (code self.token)) (dwords_of self.part.now))) (dwords_of self.part.now) (length instructions.old) (length operands.old) (length words.old) self.place.offset self.place.row self.place.word }
+        ensures { w.Written (ins.judged (layout (code self.entry.token)) (ins.split model51 (layout (code self.entry.token)) (dwords_of self.entry.part.now))) self.entry.place.offset self.entry.place.row self.entry.place.word instructions.old operands.old words.old result instructions.new operands.new words.new }
+    {
+        let s = uncounted_layout(self.token % 2048);
+        self.write_laid(s, model51, instructions, operands, words)
+    }
+
+    // Writes an instruction whose code has no count. Most declare and are not in the long form: what their layout leaves out is left out here
+    // too. It stays a function of its own, so that their layout takes no registers of the counted way.
+    #[inline(never)]
+    fn write_uncounted(
+        self,
+        model51: bool,
+        instructions: &mut [u32],
+        operands: &mut [u32],
+        words: &mut [u32],
+    ) -> Sizes
+        requires { (self.token ≡ get_or (dwords_of self.part.now) 0 0) × (operand_count (code self.token) ≡ none) × w.Ready (ins.judged (layout (code self.token)) (ins.split model51 (layout (code self.token)) (dwords_of self.part.now))) (dwords_of self.part.now) (length instructions.old) (length operands.old) (length words.old) self.place.offset self.place.row self.place.word }
+        ensures { w.Written (ins.judged (layout (code self.entry.token)) (ins.split model51 (layout (code self.entry.token)) (dwords_of self.entry.part.now))) self.entry.place.offset self.entry.place.row self.entry.place.word instructions.old operands.old words.old result instructions.new operands.new words.new }
+    {
+        match declaration(self.token % 2048) {
+            Some(d) if !long(self.token) => {
+                self.write_laid(declared(d), model51, instructions, operands, words)
+            }
+            _ => self.write_other(model51, instructions, operands, words),
+        }
     }
 }
 
