@@ -1,17 +1,17 @@
 -- Laws of an operand's dword and its extension.
-use Prim.Native.Nat.{ℕ, ◌+◌, ◌*◌, ◌^◌, ◌≤◌}
+use Prim.Native.Nat.{ℕ, ◌+◌, ◌-◌, ◌*◌, ◌^◌, ◌≤◌}
 use mathlib.Core.Path.{◌≡◌, refl, ap, ◌∙◌}
 use mathlib.Core.Bool.{cond}
 use lib.Dec.{ltb}
-use mathlib.Core.List.{List, [], ◌∷◌}
+use mathlib.Core.List.{List, [], ◌∷◌, ◌++◌}
 use native.Mathlib.Omega.{arith}
-use lib.ListN.{length}
+use lib.ListN.{length, take, drop}
 use Rattle.format.specs.Dwords.{bytes_of, bits_from}
 use Rattle.format.specs.Operands.{dimension, repr}
 use Rattle.format.specs.Encoder.{at, extension_of, operand_dword}
 use Rattle.output.specs.Puts.{put, Headed}
 use Rattle.output.proofs.Puts.{dwords_more}
-use Rattle.operand_emit.specs.Emits.{head_of}
+use Rattle.operand_emit.specs.Emits.{head_of, words_left, Lone}
 
 module _ (q : List ℕ) (place t : ℕ) (out : List ℕ) (et : t + length (extension_of (at 3 q)) * 2 ^ 31 ≡ operand_dword q) where
   module _ {x : ℕ} (ex : x ∷ [] ≡ extension_of (at 3 q)) where
@@ -48,3 +48,22 @@ module _ (t n : ℕ) {d : ℕ} (e : t + n * 2 ^ 31 ≡ d) where
 
   pub same_third : repr 2 t ≡ repr 2 d
   same_third = same_at 2 (omega arith)
+
+-- ---- a head, and the words behind it
+module _ (q ws : List ℕ) (word place : ℕ) (out : List ℕ) (g : Lone q (length ws) word place (length out)) where
+  pub head_room : 4 * (place + length (head_of q)) ≤ length out
+  head_room = omega (arith, g.head_fits, g.room)
+
+  module _ {next : ℕ} {out₁ : List ℕ} (hd : Headed (head_of q) place out next out₁) where
+    pub head_within : next ≤ place + at 15 q
+    head_within = omega (arith, hd.next_is, g.head_fits)
+
+    left_is : place + at 15 q - next ≡ words_left q
+    left_is = omega (arith, hd.next_is, g.head_fits)
+
+    pub words_room : (n : ℕ) → n ≡ length out → (place + at 15 q - next ≤ length ws - word) × (4 * (next + (place + at 15 q - next)) ≤ n)
+    words_room n en = (omega (arith, left_is, g.words_there), omega (arith, head_within, g.room))
+
+    pub lone_put : {out₂ : List ℕ} → out₂ ≡ put (4 * next) (bytes_of (take (place + at 15 q - next) (drop word ws))) out₁ →
+        out₂ ≡ put (4 * place) (bytes_of (head_of q ++ take (words_left q) (drop word ws))) out
+    lone_put e = dwords_more place next (head_of q) (take (words_left q) (drop word ws)) out head_room hd.next_is hd.output_is (rw left_is at e)

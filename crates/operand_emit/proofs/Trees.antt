@@ -20,7 +20,7 @@ use Rattle.operand_deep.specs.Confirm.{Confirmer, confirm_index, confirm}
 use Rattle.operand_deep.proofs.Every.{Every, unmet, met, every_then, every_if, every_of}
 use Rattle.operand_deep.proofs.Sound.{sound}
 use Rattle.output.specs.Puts.{put, Headed}
-use Rattle.operand_emit.specs.Emits.{row_from, standing, Ready, Emitted, head_of, Fits}
+use Rattle.operand_emit.specs.Emits.{row_from, standing, Ready, Emitted, head_of, Fits, words_left, Lone}
 use Rattle.operand_emit.specs.declared.Place.{Place}
 use Rattle.output.proofs.Puts.{dwords_more}
 use Rattle.operand_emit.proofs.Heads.{same_first, same_second, same_third}
@@ -162,27 +162,23 @@ module _ (left : ℕ) (rs ws : List ℕ) (from : Place) (out : List ℕ) (g : Re
       end_within : 4 * (from.at + at 15 q) ≤ length out
       end_within = omega (arith, dwords_are, g.room)
 
-      module _ {next : ℕ} {out₁ : List ℕ} (hd : Headed (head_of q) from.at out next out₁) where
-        pub head_within : next ≤ from.at + at 15 q
-        head_within = omega (arith, dwords_are, lone_length, hd.next_is)
+      left_is : words_left q ≡ length W
+      left_is = omega (arith, dwords_are, lone_length)
 
-        left_is : from.at + at 15 q - next ≡ length W
-        left_is = omega (arith, dwords_are, lone_length, hd.next_is)
+      pub lone_ready : Lone q (length ws) from.word from.at (length out)
+      lone_ready = record { fits = row_fits; head_fits = omega (arith, dwords_are, lone_length); words_there = omega (arith, left_is, words_there); room = end_within }
 
-        pub words_room : (n : ℕ) → n ≡ length out → (from.at + at 15 q - next ≤ length ws - from.word) × (4 * (next + (from.at + at 15 q - next)) ≤ n)
-        words_room n en = (omega (arith, left_is, words_there), omega (arith, end_within, head_within))
-
-        pub lone_emitted : {to : Place} {out₂ : List ℕ} → out₂ ≡ put (4 * next) (bytes_of (take (from.at + at 15 q - next) (drop from.word ws))) out₁ →
-            to ≡ record { operand = from.operand + 16; word = from.word + (from.at + at 15 q - next); at = next + (from.at + at 15 q - next) } →
-            Emitted (standing (confirm left) rs ws from.operand from.word) from.operand from.word from.at out to out₂
-        lone_emitted {to} {out₂} e et =
-            let z : take (from.at + at 15 q - next) (drop from.word ws) ≡ W = front_words (from.at + at 15 q - next) left_is in
-            rw (et) (emitted_of g.is (record {
-              output_is = rw lone_dwords (dwords_more from.at next (head_of q) W out (omega (arith, head_room)) hd.next_is hd.output_is (rw z at e));
-              operand_is = omega (arith, rows_are, h);
-              word_is = ap (λ (j : ℕ). from.word + j) left_is;
-              at_is = omega (arith, dwords_are, head_within);
-            }))
+      pub lone_emitted : {to : Place} {out₁ : List ℕ} → out₁ ≡ put (4 * from.at) (bytes_of (head_of q ++ take (words_left q) (drop from.word ws))) out →
+          to ≡ record { operand = from.operand + 16; word = from.word + words_left q; at = from.at + at 15 q } →
+          Emitted (standing (confirm left) rs ws from.operand from.word) from.operand from.word from.at out to out₁
+      lone_emitted {to} {out₁} e et =
+          let z : head_of q ++ take (words_left q) (drop from.word ws) ≡ dwords g.tree = ap (λ (l : List ℕ). head_of q ++ l) (front_words (words_left q) left_is) ∙ sym lone_dwords in
+          rw et (emitted_of g.is (record {
+            output_is = rw z at e;
+            operand_is = omega (arith, rows_are, h);
+            word_is = ap (λ (j : ℕ). from.word + j) left_is;
+            at_is = ap (λ (j : ℕ). from.at + j) dwords_are;
+          }))
 
     -- of one index of one dword, without an extension
     module _ (d : at 6 q ≡ 1) (r : at 7 q ≡ 0) (m : at 3 q ≡ 0) where

@@ -1,5 +1,5 @@
 -- What is written of an operand whose rows and words were confirmed: the bytes of its dwords.
-use Rattle.std.specs.Prelude.{ℕ, ◌+◌, ◌*◌, ◌/◌, ◌^◌, ◌<◌, ◌≤◌, ◌≡◌, List, ◌∷◌, length, take, drop}
+use Rattle.std.specs.Prelude.{ℕ, ◌+◌, ◌-◌, ◌*◌, ◌/◌, ◌^◌, ◌<◌, ◌≤◌, ◌≡◌, List, ◌∷◌, length, take, drop}
 use Rattle.std.proofs.Math.Option.{Option, none as nothing, some as just}
 use Rattle.format.specs.Dwords.{bytes_of}
 use Rattle.format.specs.Operands.{Tree, none, dwords}
@@ -44,3 +44,14 @@ pub record Fits (q : List ℕ) : Type 0 where
   pub form_fits : at 1 q < 5
   pub modifiers_fit : at 3 q < 2 ^ 7
   pub dword_fits : operand_dword q < 2 ^ 32
+
+-- as many words as the row's dwords leave behind its head
+abbrev pub words_left : List ℕ → ℕ
+words_left q = at 15 q - length (head_of q)
+
+-- a row, words for all of its dwords but the head, and room for them
+pub record Lone (q : List ℕ) (ws word place n : ℕ) : Type 0 where
+  pub fits : Fits q
+  pub head_fits : length (head_of q) ≤ at 15 q
+  pub words_there : words_left q ≤ ws - word
+  pub room : 4 * (place + at 15 q) ≤ n

@@ -1,7 +1,7 @@
 // Writes the dwords of an operand whose rows and words were confirmed.
 #![tactic(auto)]
 
-ghost use Rattle.std.specs.Prelude.{◌≡◌, ◌≢◌, [], ◌∷◌, ◌+◌, ◌-◌, ◌*◌, ◌^◌, ◌<◌, ◌≤◌, length, get_or, take, drop, option_to_list};
+ghost use Rattle.std.specs.Prelude.{◌≡◌, ◌≢◌, [], ◌∷◌, ◌++◌, ◌+◌, ◌-◌, ◌*◌, ◌^◌, ◌<◌, ◌≤◌, length, get_or, take, drop, option_to_list};
 ghost use Rattle.format.specs.Dwords.{bytes_of};
 ghost use Rattle.format.specs.Encoder as e;
 ghost use Rattle.output.specs.Puts.{put, Headed};
@@ -99,8 +99,24 @@ pub fn write_words(words: &[u32], from: Place, n: usize, output: &mut [u8]) -> P
     }
 }
 
+// Writes an operand with no operand in it, whose row the place has passed: its dword and extension, and behind them its words, one
+// behind the other.
+#[inline(always)]
+fn lone(row: &[u32; 16], words: &[u32], from: Place, output: &mut [u8]) -> Place
+    requires { w.Lone row.now (length words.now) from.word from.at (length output.old) }
+    ensures bytes { output.new ≡ put (4 * from.at) (bytes_of (w.head_of row.now ++ take (w.words_left row.now) (drop from.word words.now))) output.old }
+    ensures place { result ≡ record from { word = from.word + w.words_left row.now; at = from.at + e.at 15 row.now } }
+{
+    let behind = Place {
+        at: head(row, output, from.at),
+        ..from
+    };
+    let n = from.at + row[15] as usize - behind.at;
+    write_words(words, behind, n, output)
+}
+
 // Writes an index of a representation: words of its own, and the operand that stands in it.
-#[cycle(emit_index_tree)]
+#[cycle(deep_index_tree)]
 fn index(
     operands: &[u32],
     words: &[u32],
@@ -116,13 +132,11 @@ fn index(
     if !tokens::nests(r) {
         return next;
     }
-    emit(operands, words, next, left - 1, output)
+    deep(operands, words, next, left - 1, output)
 }
 
-// Writes an operand with an operand in it: its dword and extension, and behind them its indices. It stands apart, so that `emit`
-// can be inlined: few operands come here.
-#[cycle(emit_index_tree)]
-#[cold]
+// Writes an operand with an operand in it: its dword and extension, and behind them its indices.
+#[cycle(deep_index_tree)]
 fn tree(
     row: &[u32; 16],
     operands: &[u32],
@@ -145,9 +159,27 @@ fn tree(
     index(operands, words, b, tokens::repr(2, t), left, output)
 }
 
+// Writes the operand that was confirmed at a place, the general way. It stands apart, so that `emit` can be inlined: few operands
+// come here.
+#[cycle(deep_index_tree)]
+#[cold]
+fn deep(operands: &[u32], words: &[u32], from: Place, left: usize, output: &mut [u8]) -> Place
+    requires { w.Ready (w.standing (c.confirm left) operands.now words.now from.operand from.word) from.at (length output.old) }
+    ensures { w.Emitted (w.standing (c.confirm left) operands.now words.now from.operand from.word) from.operand from.word from.at output.old result output.new }
+{
+    let row = row_at(operands, from.operand);
+    if row[14] != 1 {
+        return tree(row, operands, words, from, left, output);
+    }
+    let behind = Place {
+        operand: from.operand + 16,
+        ..from
+    };
+    lone(row, words, behind, output)
+}
+
 // Writes the operand that was confirmed at a place. Most have no operand in them: their words stand one behind the other, behind
 // their dword and its extension. Most of these have one index of one dword, and no extension.
-#[cycle(emit_index_tree)]
 #[inline(always)]
 pub fn emit(operands: &[u32], words: &[u32], from: Place, left: usize, output: &mut [u8]) -> Place
     requires { w.Ready (w.standing (c.confirm left) operands.now words.now from.operand from.word) from.at (length output.old) }
@@ -164,20 +196,12 @@ pub fn emit(operands: &[u32], words: &[u32], from: Place, left: usize, output: &
         };
     }
     if row[14] != 1 {
-        return tree(
-            row,
-            operands,
-            words,
-            Place { operand, word, at },
-            left,
-            output,
-        );
+        return deep(operands, words, Place { operand, word, at }, left, output);
     }
     let behind = Place {
         operand: operand + 16,
         word,
-        at: head(row, output, at),
+        at,
     };
-    let n = at + row[15] as usize - behind.at;
-    write_words(words, behind, n, output)
+    lone(row, words, behind, output)
 }

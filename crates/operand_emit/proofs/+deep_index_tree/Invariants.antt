@@ -1,8 +1,8 @@
 use Prim.Native.Nat.{◌+◌, ◌*◌}
-use Rattle.operand_emit.proofs.+emit_index_tree.Given as goal
+use Rattle.operand_emit.proofs.+deep_index_tree.Given as goal
 
-abbrev pub decreases-emit : goal.decreases-emit
-decreases-emit l = l.left * 3 + 2
+abbrev pub decreases-deep : goal.decreases-deep
+decreases-deep l = l.left * 3 + 2
 
 abbrev pub decreases-tree : goal.decreases-tree
 decreases-tree l = l.left * 3 + 1
