@@ -217,8 +217,10 @@ fn leaf(numbers: &[u32; 16], guess: Guess, words: &[u32], row: usize, word: usiz
     })
 }
 
-// Walks an index of a representation, whose operand, if it has one, stands at a place's row, and whose words at its word.
+// Walks an index of a representation, whose operand, if it has one, stands at a place's row, and whose words at its word. It is inlined into
+// `tree`, so that its answer is not passed through memory.
 #[cycle(deep_index_tree)]
+#[inline(always)]
 fn index(operands: &[u32], words: &[u32], at: Place, r: u32, left: usize) -> Option<Step>
     requires { (0 < left) × (16 * at.row ≤ length operands.now) }
     ensures { result ≡ w.reached at (w.there (c.confirm_index (c.confirm (left - 1)) r) operands.now words.now at.row at.word) }
